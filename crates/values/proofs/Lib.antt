@@ -1,0 +1,6 @@
+pub mod Digits
+pub mod Masks
+pub mod Rates
+pub mod Sums
+pub mod Times
+pub mod Verdicts

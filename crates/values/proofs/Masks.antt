@@ -1,0 +1,2 @@
+-- Bits: the arithmetic that code and definitions use is the masks that the rules name.
+-- Assumes nothing.

@@ -1,0 +1,55 @@
+-- Bits of a byte.
+use mathlib.Core.Bool.{Bool, cond}
+use Prim.Native.Nat.{ℕ, _+_, _-_, _/_, _%_, _^_}
+use lib.Dec.{eqb}
+
+-- a mask whose ones stand side by side: `ones` of them above `below` zeros
+pub record Mask : Type 0 where
+  pub ones : ℕ
+  pub below : ℕ
+
+abbrev pub run : ℕ → ℕ → Mask
+run ones below = record { ones = ones; below = below }
+
+-- the number that document and data sheet write for it
+abbrev pub value : Mask → ℕ
+value m = 2 ^ (m .ones + m .below) - 2 ^ m .below
+
+-- the bits of b under the mask, as a number of their own
+abbrev pub under : Mask → ℕ → ℕ
+under m b = b / 2 ^ m .below % 2 ^ m .ones
+
+abbrev pub allSet : Mask → ℕ → Bool
+allSet m b = eqb (under m b) (2 ^ m .ones - 1)
+
+abbrev pub allClear : Mask → ℕ → Bool
+allClear m b = eqb (under m b) 0
+
+-- the mask where the flag is on, else no bit
+abbrev pub flag : Bool → ℕ → ℕ
+flag on mask = cond on mask 0
+
+-- the masks that the rules name
+abbrev pub x80 : Mask
+x80 = run 1 7
+
+abbrev pub x40 : Mask
+x40 = run 1 6
+
+abbrev pub x20 : Mask
+x20 = run 1 5
+
+abbrev pub x10 : Mask
+x10 = run 1 4
+
+abbrev pub x08 : Mask
+x08 = run 1 3
+
+abbrev pub x04 : Mask
+x04 = run 1 2
+
+abbrev pub xC0 : Mask
+xC0 = run 2 6
+
+abbrev pub x0F : Mask
+x0F = run 4 0

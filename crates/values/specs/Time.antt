@@ -1,0 +1,73 @@
+-- Rule 5, the time code: its four bytes read, and made.
+use mathlib.Core.Bool.{Bool, false}
+use mathlib.Core.List.{List, [], _∷_}
+use Prim.Native.Nat.{ℕ, _+_, _*_, _/_, _%_}
+use lib.Dec.{leb}
+use Rattle.values.specs.Answer.{InvalidFixedBits, NotWritable, refused}
+use Rattle.values.specs.Check.{Check, check, verdict, answer, given}
+use Rattle.values.specs.Mask.{under, run, allSet, allClear, flag, x80, x40, xC0, x0F}
+use Rattle.values.specs.declared.time_code.TimeCode.{TimeCode}
+use Rattle.values.specs.declared.time_code.TimeCodeRead.{TimeCodeRead}
+use Rattle.values.specs.declared.time_code.TimeCodeWritten.{TimeCodeWritten}
+
+abbrev pub timeCode : ℕ → ℕ → ℕ → ℕ → Bool → Bool → TimeCode
+timeCode hours minutes seconds frames field drop =
+    record { hours = hours; minutes = minutes; seconds = seconds; frames = frames; field = field; «drop_frame» = drop }
+
+-- what stands beside a refusal
+abbrev pub noTime : TimeCode
+noTime = timeCode 0 0 0 0 false false
+
+-- ten times the tens plus the units: the units are the low four bits, 10 to 15 among them, the tens so many bits above
+unfoldable pub digits : ℕ → ℕ → ℕ
+digits tensBits b = under (run tensBits 4) b * 10 + under x0F b
+
+-- the fixed bits, in the order of the bytes: hours have both of C0, minutes have 80, frames have no 40
+abbrev pub timeChecks : ℕ → ℕ → ℕ → ℕ → List Check
+timeChecks hours minutes seconds frames =
+    check (allSet xC0 hours) InvalidFixedBits
+    ∷ check (allSet x80 minutes) InvalidFixedBits
+    ∷ check (allClear x40 frames) InvalidFixedBits
+    ∷ []
+
+-- tens of two bits in hours and frames, of three in minutes and seconds; 80 of seconds is the field, of frames drop frame
+abbrev pub timeOf : ℕ → ℕ → ℕ → ℕ → TimeCode
+timeOf hours minutes seconds frames =
+    timeCode (digits 2 hours) (digits 3 minutes) (digits 3 seconds) (digits 2 frames) (allSet x80 seconds) (allSet x80 frames)
+
+unfoldable pub timeRead : ℕ → ℕ → ℕ → ℕ → TimeCodeRead
+timeRead hours minutes seconds frames =
+    let v = verdict (timeChecks hours minutes seconds frames) in
+    record { answer = answer v 0; «time_code» = given v (timeOf hours minutes seconds frames) noTime }
+
+abbrev pub misread : TimeCodeRead
+misread = record { answer = refused InvalidFixedBits; «time_code» = noTime }
+
+-- Writing: hours and frames 0 to 39, minutes and seconds 0 to 79
+abbrev pub timeWriteChecks : TimeCode → List Check
+timeWriteChecks t =
+    check (leb (t .hours) 39) NotWritable
+    ∷ check (leb (t .minutes) 79) NotWritable
+    ∷ check (leb (t .seconds) 79) NotWritable
+    ∷ check (leb (t .frames) 39) NotWritable
+    ∷ []
+
+-- the tens above the units
+abbrev pub digitBits : ℕ → ℕ
+digitBits value = value / 10 * 16 + value % 10
+
+abbrev pub timeBytes : TimeCode → List ℕ
+timeBytes t =
+    (0xC0 + digitBits (t .hours))
+    ∷ (0x80 + digitBits (t .minutes))
+    ∷ (flag (t .field) 0x80 + digitBits (t .seconds))
+    ∷ (flag (t .«drop_frame») 0x80 + digitBits (t .frames))
+    ∷ []
+
+abbrev pub timeWritten : TimeCode → TimeCodeWritten
+timeWritten t =
+    let v = verdict (timeWriteChecks t) in
+    record { answer = answer v 0; bytes = given v (timeBytes t) (0 ∷ 0 ∷ 0 ∷ 0 ∷ []) }
+
+abbrev pub unwritten : TimeCodeWritten
+unwritten = record { answer = refused NotWritable; bytes = 0 ∷ 0 ∷ 0 ∷ 0 ∷ [] }

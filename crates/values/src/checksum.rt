@@ -1,0 +1,22 @@
+// Rule 9: the checksum.
+ghost use mathlib.Core.Path.{_≡_};
+ghost use Prim.Native.Nat.{_%_};
+ghost use Rattle.values.specs.Checksum.{total, negative};
+
+// What makes the bytes and it sum to 0 modulo 256.
+pub fn checksum_byte(bytes: &[u8]) -> u8
+    ensures { λ r. ⌜ r ≡ negative (total (now (bytes .entry))) ⌝ }
+{
+    std::num::wrapping_add_u8(255 - sum(bytes), 1)
+}
+
+// The sum of the bytes, which wraps at 256.
+fn sum(bytes: &[u8]) -> u8
+    ensures { λ r. ⌜ r ≡ total (now (bytes .entry)) % 256 ⌝ }
+{
+    let mut sum: u8 = 0;
+    for k in 0..bytes.len() {
+        sum = std::num::wrapping_add_u8(sum, bytes[k]);
+    }
+    sum
+}

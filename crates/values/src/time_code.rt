@@ -1,0 +1,167 @@
+// Rule 5: the time code, four bytes behind its id byte.
+ghost use mathlib.Core.Path.{_≡_};
+ghost use Prim.Native.Nat.{_≤_, _<_};
+ghost use lib.ListN.{getD};
+ghost use Rattle.values.specs.Time.{timeCode, noTime, timeRead, timeWritten};
+ghost use Rattle.values.specs.Time as Time;
+use crate::answer::Answer;
+use crate::bits::flag;
+
+pub struct TimeCode {
+    pub hours: u8,
+    pub minutes: u8,
+    pub seconds: u8,
+    pub frames: u8,
+    pub field: bool,
+    pub drop_frame: bool,
+}
+
+// A refusal has zeros beside it.
+pub struct TimeCodeRead {
+    pub answer: Answer,
+    pub time_code: TimeCode,
+}
+
+// A refusal has zeros beside it.
+pub struct TimeCodeWritten {
+    pub answer: Answer,
+    pub bytes: [u8; 4],
+}
+
+impl TimeCode {
+    // How many tens bits the four bytes have.
+    const HOURS_TENS_BITS: u8 = 2;
+
+    const MINUTES_TENS_BITS: u8 = 3;
+
+    const SECONDS_TENS_BITS: u8 = 3;
+
+    const FRAMES_TENS_BITS: u8 = 2;
+
+    // The largest values that such tens and the units 0 to 9 make.
+    pub const MAX_HOURS: u8 = 39;
+
+    pub const MAX_MINUTES: u8 = 79;
+
+    pub const MAX_SECONDS: u8 = 79;
+
+    pub const MAX_FRAMES: u8 = 39;
+
+    pub fn new(
+        hours: u8,
+        minutes: u8,
+        seconds: u8,
+        frames: u8,
+        field: bool,
+        drop_frame: bool,
+    ) -> Self
+        ensures { λ r. ⌜ r ≡ timeCode hours minutes seconds frames field «drop_frame» ⌝ }
+    {
+        Self {
+            hours,
+            minutes,
+            seconds,
+            frames,
+            field,
+            drop_frame,
+        }
+    }
+
+    // Reads hours, minutes, seconds and frames.
+    pub fn parse(bytes: [u8; 4]) -> TimeCodeRead
+        ensures { λ r. ⌜ r ≡ timeRead (getD bytes 0 0) (getD bytes 1 0) (getD bytes 2 0) (getD bytes 3 0) ⌝ }
+    {
+        let hours = bytes[0];
+        let minutes = bytes[1];
+        let seconds = bytes[2];
+        let frames = bytes[3];
+        if hours / 64 % 4 != 3 {
+            return Self::misread();
+        }
+        if minutes / 128 % 2 != 1 {
+            return Self::misread();
+        }
+        if frames / 64 % 2 != 0 {
+            return Self::misread();
+        }
+        TimeCodeRead {
+            answer: Answer::done(0),
+            time_code: Self::value(hours, minutes, seconds, frames),
+        }
+    }
+
+    // Makes the four bytes, or refuses a value that they cannot hold.
+    pub fn to_bytes(self) -> TimeCodeWritten
+        ensures { λ r. ⌜ r ≡ timeWritten self ⌝ }
+    {
+        if Self::MAX_HOURS < self.hours {
+            return Self::unwritten();
+        }
+        if Self::MAX_MINUTES < self.minutes {
+            return Self::unwritten();
+        }
+        if Self::MAX_SECONDS < self.seconds {
+            return Self::unwritten();
+        }
+        if Self::MAX_FRAMES < self.frames {
+            return Self::unwritten();
+        }
+        TimeCodeWritten {
+            answer: Answer::done(0),
+            bytes: [
+                0xC0 + digit_bits(self.hours),
+                0x80 + digit_bits(self.minutes),
+                flag(self.field, 0x80) + digit_bits(self.seconds),
+                flag(self.drop_frame, 0x80) + digit_bits(self.frames),
+            ],
+        }
+    }
+
+    // What the four bytes say, whatever their fixed bits are.
+    fn value(hours: u8, minutes: u8, seconds: u8, frames: u8) -> Self
+        ensures { λ r. ⌜ r ≡ Time.timeOf hours minutes seconds frames ⌝ }
+    {
+        Self {
+            hours: digits(hours, Self::HOURS_TENS_BITS),
+            minutes: digits(minutes, Self::MINUTES_TENS_BITS),
+            seconds: digits(seconds, Self::SECONDS_TENS_BITS),
+            frames: digits(frames, Self::FRAMES_TENS_BITS),
+            field: seconds / 128 % 2 == 1,
+            drop_frame: frames / 128 % 2 == 1,
+        }
+    }
+
+    fn misread() -> TimeCodeRead
+        ensures { λ r. ⌜ r ≡ Time.misread ⌝ }
+    {
+        TimeCodeRead {
+            answer: Answer::invalid_fixed_bits(),
+            time_code: Self::new(0, 0, 0, 0, false, false),
+        }
+    }
+
+    fn unwritten() -> TimeCodeWritten
+        ensures { λ r. ⌜ r ≡ Time.unwritten ⌝ }
+    {
+        TimeCodeWritten {
+            answer: Answer::not_writable(),
+            bytes: [0; 4],
+        }
+    }
+}
+
+// Ten times the tens, which have so many bits, plus the units, which may be over 9.
+fn digits(byte: u8, tens_bits: u8) -> u8
+    requires { ⌜ «tens_bits» ≤ 3 ⌝ }
+    ensures { λ r. ⌜ r ≡ Time.digits «tens_bits» byte ⌝ }
+{
+    byte / 16 % (1 << tens_bits) * 10 + byte % 16
+}
+
+// The tens above the units.
+fn digit_bits(value: u8) -> u8
+    requires { ⌜ value < 80 ⌝ }
+    ensures { λ r. ⌜ r ≡ Time.digitBits value ⌝ }
+{
+    value / 10 * 16 + value % 10
+}

@@ -1,0 +1,104 @@
+//! Prints a tape: `generate SEED LINES [FAMILY]`. Equal arguments give equal tapes everywhere.
+
+mod aims;
+mod bad;
+mod bad_words;
+mod behind;
+mod big;
+mod boundary;
+mod damaged;
+mod entries;
+mod future;
+mod lists;
+mod packet;
+mod parts;
+mod pieces;
+mod random;
+mod refusals;
+mod sections;
+mod sequence;
+mod short;
+mod tape;
+mod values;
+mod writes;
+
+use random::Random;
+use tape::Tape;
+
+/// Prints some lines; the turn lets a family go through its cases in order.
+type Step = fn(&mut Random, &mut Tape, u64);
+
+struct Family {
+    name: &'static str,
+    /// Its part of the lines, in hundredths.
+    share: u64,
+    step: Step,
+}
+
+const fn family(name: &'static str, share: u64, step: Step) -> Family {
+    Family { name, share, step }
+}
+
+const FAMILIES: [Family; 14] = [
+    family("short", 8, short::step),
+    family("boundary", 10, boundary::step),
+    family("damaged", 12, damaged::step),
+    family("refusals", 14, refusals::step),
+    family("future", 6, future::step),
+    family("behind", 6, behind::step),
+    family("sequence", 15, sequence::step),
+    family("big", 1, big::step),
+    family("sections", 6, sections::step),
+    family("entries", 5, entries::step),
+    family("lists", 3, lists::step),
+    family("writes", 8, writes::step),
+    family("pieces", 4, pieces::step),
+    family("bad", 2, bad::step),
+];
+
+fn usage() -> ! {
+    eprintln!("usage: generate SEED LINES [FAMILY], where FAMILY is one of");
+    for family in &FAMILIES {
+        eprintln!("  {}", family.name);
+    }
+    std::process::exit(2)
+}
+
+fn number(word: Option<&String>) -> u64 {
+    match word.and_then(|word| word.parse().ok()) {
+        Some(number) => number,
+        None => usage(),
+    }
+}
+
+fn chosen(name: Option<&String>) -> Vec<&'static Family> {
+    static ALL: [Family; 14] = FAMILIES;
+    let wanted = |family: &&Family| name.map_or(true, |name| family.name == name);
+    ALL.iter().filter(wanted).collect()
+}
+
+/// Always goes on with the family that is furthest behind its share.
+fn fill(rng: &mut Random, tape: &mut Tape, families: &[&Family]) {
+    let mut printed = vec![0; families.len()];
+    let mut turns = vec![0; families.len()];
+    while tape.left() > 0 {
+        let behind = |k: &usize| printed[*k] * 1000 / families[*k].share;
+        let k = (0..families.len()).min_by_key(behind).expect("one family at least");
+        let before = tape.left();
+        (families[k].step)(rng, tape, turns[k]);
+        printed[k] += before - tape.left();
+        turns[k] += 1;
+    }
+}
+
+fn main() -> std::io::Result<()> {
+    let given: Vec<String> = std::env::args().skip(1).collect();
+    let (seed, lines) = (number(given.get(0)), number(given.get(1)));
+    let families = chosen(given.get(2));
+    if families.is_empty() || given.len() > 3 {
+        usage();
+    }
+    let mut tape = Tape::new(lines);
+    fill(&mut Random::new(seed), &mut tape, &families);
+    tape.finish()
+}

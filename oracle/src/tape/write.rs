@@ -1,0 +1,109 @@
+//! The operations W, L and N, and the values for which the port equals the Rust.
+
+use crate::line::Held;
+use crate::show::{Answer, Bytes};
+use crate::values::{List, Rate};
+use crate::{FILL, SKIP};
+use cdp_types::cea708_types::DTVCCPacket;
+use cdp_types::{CDPWriter, FieldOrService, Framerate, ServiceEntry, ServiceInfo, TimeCode};
+
+const MOST_CAPTIONS: usize = 93;
+const MOST_ENTRIES: usize = 15;
+
+fn known_rate((id, numer, denom): Rate) -> Option<Framerate> {
+    Framerate::from_id(id).filter(|rate| (rate.numer(), rate.denom()) == (numer, denom))
+}
+
+fn captions_fit(run: &[u8]) -> bool {
+    run.len() <= MOST_CAPTIONS && run.len() % 3 == 0
+}
+
+fn time_fits(time: &TimeCode) -> bool {
+    let outer = time.hours() <= 39 && time.frames() <= 39;
+    outer && time.minutes() <= 79 && time.seconds() <= 79
+}
+
+fn entry_fits(entry: &ServiceEntry) -> bool {
+    match entry.service() {
+        FieldOrService::Field(_) => true,
+        FieldOrService::Service(digital) => (1..=63).contains(&digital.service_no()),
+    }
+}
+
+fn list_fits(list: &List) -> bool {
+    list.entries.len() <= MOST_ENTRIES && list.entries.iter().all(entry_fits)
+}
+
+/// The Rust's own list; `None` where it has no such list, or the port does not write it.
+fn info(list: &List) -> Option<ServiceInfo> {
+    if !list_fits(list) {
+        return None;
+    }
+    let mut info = ServiceInfo::default();
+    // Change first: setting it sets start as well.
+    info.set_change(list.change);
+    info.set_start(list.start);
+    info.set_complete(list.complete);
+    for entry in &list.entries {
+        info.add_service(*entry).ok()?;
+    }
+    Some(info)
+}
+
+/// What was written at the start of a lent buffer; `None` where the room is too short.
+fn lend(letter: char, room: usize, written: &[u8]) -> Option<String> {
+    let mut lent = vec![FILL; room];
+    lent.get_mut(..written.len())?.copy_from_slice(written);
+    let answer = Answer(0, written.len(), 0);
+    Some(format!("{} {} buf {}", letter, answer, Bytes(&lent)))
+}
+
+fn packet_text(room: usize, held: Held) -> Option<String> {
+    let rate = known_rate(held.rate)?;
+    if !captions_fit(&held.captions) || !held.time.as_ref().map_or(true, time_fits) {
+        return None;
+    }
+    let services = match &held.services {
+        None => None,
+        Some(list) => Some(info(list)?),
+    };
+    let mut writer = CDPWriter::new();
+    writer.set_sequence_count(held.sequence);
+    writer.set_time_code(held.time);
+    writer.push_packet(DTVCCPacket(held.captions));
+    writer.set_service_info(services);
+    let mut written = Vec::new();
+    writer.write(rate, &mut written).expect("a vector takes all");
+    lend('W', room, &written)
+}
+
+fn section_text(room: usize, list: List) -> Option<String> {
+    let mut written = Vec::new();
+    info(&list)?.write(&mut written).expect("a vector takes all");
+    lend('L', room, &written)
+}
+
+fn entry_text(room: usize, mut entry: ServiceEntry) -> Option<String> {
+    if !entry_fits(&entry) {
+        return None;
+    }
+    let mut written = Vec::new();
+    entry.write(&mut written).expect("a vector takes all");
+    lend('N', room, &written)
+}
+
+fn or_skip(text: Option<String>) -> String {
+    text.unwrap_or_else(|| SKIP.to_string())
+}
+
+pub fn packet(room: usize, held: Held) -> String {
+    or_skip(packet_text(room, held))
+}
+
+pub fn section(room: usize, list: List) -> String {
+    or_skip(section_text(room, list))
+}
+
+pub fn entry(room: usize, entry: ServiceEntry) -> String {
+    or_skip(entry_text(room, entry))
+}
