@@ -1,3 +1,5 @@
+pub mod Bools
+pub mod Cases
 pub mod Digits
 pub mod Masks
 pub mod Rates

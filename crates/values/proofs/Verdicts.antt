@@ -7,11 +7,11 @@ use Prim.Native.Nat.{ℕ}
 use lib.Dec.{eqb}
 use Rattle.values.specs.Answer as Table
 use Rattle.values.specs.Answer.{Refusal, refused}
-use Rattle.values.specs.Check.{Check, Verdict, clear, broken, verdict, answer, given}
+use Rattle.values.specs.Check.{Check, Verdict, clear, broken, verdict, answer, ifClear}
 
 -- the first verdict, and the second where the first is clear
 abbrev pub andThen : Verdict → Verdict → Verdict
-andThen v w = given v w v
+andThen v w = ifClear v w v
 
 step : (kept : Bool) (why : Refusal) (u v w : Verdict) → u ≡ andThen v w
     → cond kept u (broken why) ≡ andThen (cond kept v (broken why)) w
@@ -38,6 +38,6 @@ refused-not-done (Table.BufferTooShort n g) = refl
 refused-not-done Table.NotWritable = refl
 refused-not-done Table.WrongCaptionRun = refl
 
-pub done-is-clear : (v : Verdict) (length : ℕ) → eqb (answer v length .number) 0 ≡ given v true false
+pub done-is-clear : (v : Verdict) (length : ℕ) → eqb (answer v length .number) 0 ≡ ifClear v true false
 done-is-clear clear length = refl
 done-is-clear (broken why) length = refused-not-done why

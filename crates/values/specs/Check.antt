@@ -27,6 +27,6 @@ abbrev pub answer : Verdict → ℕ → Answer
 answer clear length = done length
 answer (broken why) length = refused why
 
-abbrev pub given : {A : Type 0} → Verdict → A → A → A
-given clear whole none = whole
-given (broken why) whole none = none
+abbrev pub ifClear : {A : Type 0} → Verdict → A → A → A
+ifClear clear whole none = whole
+ifClear (broken why) whole none = none

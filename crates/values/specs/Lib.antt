@@ -6,3 +6,4 @@ pub mod Flags
 pub mod Sequence
 pub mod Time
 pub mod Checksum
+pub mod Cases

@@ -29,7 +29,7 @@ allClear m b = eqb (under m b) 0
 abbrev pub flag : Bool → ℕ → ℕ
 flag on mask = cond on mask 0
 
--- the masks that the rules name
+-- the masks that the rules name, by their names there
 abbrev pub x80 : Mask
 x80 = run 1 7
 
@@ -50,6 +50,27 @@ x04 = run 1 2
 
 abbrev pub xC0 : Mask
 xC0 = run 2 6
+
+abbrev pub xE0 : Mask
+xE0 = run 3 5
+
+abbrev pub xF0 : Mask
+xF0 = run 4 4
+
+abbrev pub x70 : Mask
+x70 = run 3 4
+
+abbrev pub x30 : Mask
+x30 = run 2 4
+
+abbrev pub x3F : Mask
+x3F = run 6 0
+
+abbrev pub x3E : Mask
+x3E = run 5 1
+
+abbrev pub x1F : Mask
+x1F = run 5 0
 
 abbrev pub x0F : Mask
 x0F = run 4 0

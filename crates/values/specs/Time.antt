@@ -4,7 +4,7 @@ use mathlib.Core.List.{List, [], _∷_}
 use Prim.Native.Nat.{ℕ, _+_, _*_, _/_, _%_}
 use lib.Dec.{leb}
 use Rattle.values.specs.Answer.{InvalidFixedBits, NotWritable, refused}
-use Rattle.values.specs.Check.{Check, check, verdict, answer, given}
+use Rattle.values.specs.Check.{Check, check, verdict, answer, ifClear}
 use Rattle.values.specs.Mask.{under, run, allSet, allClear, flag, x80, x40, xC0, x0F}
 use Rattle.values.specs.declared.time_code.TimeCode.{TimeCode}
 use Rattle.values.specs.declared.time_code.TimeCodeRead.{TimeCodeRead}
@@ -38,7 +38,7 @@ timeOf hours minutes seconds frames =
 unfoldable pub timeRead : ℕ → ℕ → ℕ → ℕ → TimeCodeRead
 timeRead hours minutes seconds frames =
     let v = verdict (timeChecks hours minutes seconds frames) in
-    record { answer = answer v 0; «time_code» = given v (timeOf hours minutes seconds frames) noTime }
+    record { answer = answer v 0; «time_code» = ifClear v (timeOf hours minutes seconds frames) noTime }
 
 abbrev pub misread : TimeCodeRead
 misread = record { answer = refused InvalidFixedBits; «time_code» = noTime }
@@ -67,7 +67,7 @@ timeBytes t =
 abbrev pub timeWritten : TimeCode → TimeCodeWritten
 timeWritten t =
     let v = verdict (timeWriteChecks t) in
-    record { answer = answer v 0; bytes = given v (timeBytes t) (0 ∷ 0 ∷ 0 ∷ 0 ∷ []) }
+    record { answer = answer v 0; bytes = ifClear v (timeBytes t) (0 ∷ 0 ∷ 0 ∷ 0 ∷ []) }
 
 abbrev pub unwritten : TimeCodeWritten
 unwritten = record { answer = refused NotWritable; bytes = 0 ∷ 0 ∷ 0 ∷ 0 ∷ [] }

@@ -56,7 +56,7 @@ fn broken(rng: &mut Random, mut words: Vec<String>) -> Vec<u8> {
         5 if words.len() > 1 => return whole.replacen(' ', "", 1).into_bytes(),
         6 => return with(rng, whole.as_bytes(), b' '),
         7 => return [whole.as_bytes(), b"\r"].concat(),
-        8 => return whole.replacen(' ', "\t", 1).replace('F', "F\t").into_bytes(),
+        8 if words.len() > 1 => return whole.replacen(' ', "\t", 1).into_bytes(),
         _ => {
             let strange = rng.pick(&STRANGE);
             return with(rng, whole.as_bytes(), strange);

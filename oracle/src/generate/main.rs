@@ -39,7 +39,7 @@ const fn family(name: &'static str, share: u64, step: Step) -> Family {
     Family { name, share, step }
 }
 
-const FAMILIES: [Family; 14] = [
+static FAMILIES: [Family; 14] = [
     family("short", 8, short::step),
     family("boundary", 10, boundary::step),
     family("damaged", 12, damaged::step),
@@ -72,9 +72,8 @@ fn number(word: Option<&String>) -> u64 {
 }
 
 fn chosen(name: Option<&String>) -> Vec<&'static Family> {
-    static ALL: [Family; 14] = FAMILIES;
     let wanted = |family: &&Family| name.map_or(true, |name| family.name == name);
-    ALL.iter().filter(wanted).collect()
+    FAMILIES.iter().filter(wanted).collect()
 }
 
 /// Always goes on with the family that is furthest behind its share.
@@ -93,7 +92,7 @@ fn fill(rng: &mut Random, tape: &mut Tape, families: &[&Family]) {
 
 fn main() -> std::io::Result<()> {
     let given: Vec<String> = std::env::args().skip(1).collect();
-    let (seed, lines) = (number(given.get(0)), number(given.get(1)));
+    let (seed, lines) = (number(given.first()), number(given.get(1)));
     let families = chosen(given.get(2));
     if families.is_empty() || given.len() > 3 {
         usage();

@@ -102,12 +102,12 @@ pub fn list(rng: &mut Random, entries: &[String]) -> String {
 /// Exact more often than not; else one off, none, or far too much.
 pub fn room(rng: &mut Random, exact: usize) -> String {
     let room = match rng.below(16) {
-        0 | 1 => exact - 1,
-        2 | 3 => exact + 1,
-        4 => rng.below(exact),
-        5 | 6 => exact + rng.below(40),
-        7 => rng.pick(&[0, 1, 217, 218, 219, 255, 256]),
-        8 if rng.chance(32) => rng.pick(&[4095, 4096]),
+        0 => exact - 1,
+        1 | 2 => exact + 1,
+        3 if rng.chance(2) => rng.below(exact),
+        4 | 5 => exact + rng.below(40),
+        6 => rng.pick(&[0, 217, 218, 219, 255, 256]),
+        7 if rng.chance(32) => rng.pick(&[4095, 4096]),
         _ => exact,
     };
     decimal(rng, room as u64)

@@ -58,10 +58,10 @@ impl Held {
 
 pub fn step(rng: &mut Random, tape: &mut Tape, turn: u64) {
     let mut held = Held::good(rng);
-    if turn % 2 == 0 {
+    if turn % 3 == 0 {
         limit(rng, &mut held);
     }
-    if turn % 16 == 8 {
+    if turn % 24 == 0 {
         limit(rng, &mut held);
     }
     let room = values::room(rng, held.size());
