@@ -4,5 +4,6 @@ pub mod Digits
 pub mod Masks
 pub mod Rates
 pub mod Sums
-pub mod Times
+pub mod TimeReads
+pub mod TimeWrites
 pub mod Verdicts

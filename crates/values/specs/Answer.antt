@@ -1,16 +1,16 @@
--- The table of answers: every number with the two values that go with it.
+-- The table of answers in docs/RULES.md: every number with the two values that go with it.
 use Prim.Native.Nat.{ℕ}
 use Rattle.values.specs.declared.answer.Answer.{Answer}
 
--- answer 0: a length where the call has one to give, else 0
+-- 0: done, with a length where the call has one to give, else with 0
 abbrev pub done : ℕ → Answer
 done length = record { number = 0; first = length; second = 0 }
 
--- why a call refuses: answers 1 to 13
+-- 1 to 13: why a call refuses
 pub data Refusal : Type 0 where
   -- 1: the length that was expected, and the one that was met
   LengthMismatch : ℕ → ℕ → Refusal
-  -- 2 to 9
+  -- 2 to 9, in this order
   WrongMagic : Refusal
   UnknownFramerate : Refusal
   InvalidFixedBits : Refusal
@@ -28,9 +28,11 @@ pub data Refusal : Type 0 where
   -- 13: a caption run over 93 bytes, or no multiple of 3
   WrongCaptionRun : Refusal
 
+-- an answer whose two values are 0
 abbrev pub plain : ℕ → Answer
 plain number = record { number = number; first = 0; second = 0 }
 
+-- the number and the two values of each refusal
 abbrev pub refused : Refusal → Answer
 refused (LengthMismatch expected actual) = record { number = 1; first = expected; second = actual }
 refused WrongMagic = plain 2

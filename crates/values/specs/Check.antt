@@ -1,4 +1,4 @@
--- The form in which every rule is stated: a list of checks in the order in which they are made.
+-- The form in which the rules are stated: lists of checks, in the order in which the rules make them.
 use mathlib.Core.Bool.{Bool, cond}
 use mathlib.Core.List.{List, [], _∷_}
 use Prim.Native.Nat.{ℕ}
@@ -13,20 +13,22 @@ pub record Check : Type 0 where
 abbrev pub check : Bool → Refusal → Check
 check kept refusal = record { kept = kept; refusal = refusal }
 
--- all checks are kept, or the first that is broken says why; by its type no check is broken with answer 0
+-- what a list of checks comes to; a refusal is no answer 0 by its type, so no check is broken with "done"
 pub data Verdict : Type 0 where
   clear : Verdict
   broken : Refusal → Verdict
 
+-- clear where every check is kept, else what the first broken one answers
 abbrev pub verdict : List Check → Verdict
 verdict [] = clear
 verdict (c ∷ cs) = cond (c .kept) (verdict cs) (broken (c .refusal))
 
--- the answer that a verdict gives, and what goes with it where all is clear and where it is not
+-- the answer that a verdict gives, with the length that goes with 0
 abbrev pub answer : Verdict → ℕ → Answer
 answer clear length = done length
 answer (broken why) length = refused why
 
+-- one value where all is clear, another beside a refusal
 abbrev pub ifClear : {A : Type 0} → Verdict → A → A → A
-ifClear clear whole none = whole
-ifClear (broken why) whole none = none
+ifClear clear value other = value
+ifClear (broken why) value other = other

@@ -6,7 +6,14 @@ use Rattle.values.specs.declared.flags.Flags.{Flags}
 -- 80 time code, 40 captions, 20 services, 10 start, 08 change, 04 complete; 02 and 01 are unread
 abbrev pub flagsOf : ℕ → Flags
 flagsOf b =
-    record { «time_code» = allSet x80 b; «cc_data» = allSet x40 b; «svc_info» = allSet x20 b; «svc_info_start» = allSet x10 b; «svc_info_change» = allSet x08 b; «svc_info_complete» = allSet x04 b }
+    record {
+      «time_code» = allSet x80 b;
+      «cc_data» = allSet x40 b;
+      «svc_info» = allSet x20 b;
+      «svc_info_start» = allSet x10 b;
+      «svc_info_change» = allSet x08 b;
+      «svc_info_complete» = allSet x04 b;
+    }
 
 -- Writing: 02 and 01 are always set
 abbrev pub flagByte : Flags → ℕ

@@ -1,9 +1,9 @@
--- Bits of a byte.
+-- Bits of a byte, by masks whose ones stand side by side. Every mask that the rules name is one.
 use mathlib.Core.Bool.{Bool, cond}
 use Prim.Native.Nat.{ℕ, _+_, _-_, _/_, _%_, _^_}
 use lib.Dec.{eqb}
 
--- a mask whose ones stand side by side: `ones` of them above `below` zeros
+-- so many ones above so many zeros
 pub record Mask : Type 0 where
   pub ones : ℕ
   pub below : ℕ
@@ -11,25 +11,27 @@ pub record Mask : Type 0 where
 abbrev pub run : ℕ → ℕ → Mask
 run ones below = record { ones = ones; below = below }
 
--- the number that document and data sheet write for it
+-- the mask as the number that the rules write
 abbrev pub value : Mask → ℕ
 value m = 2 ^ (m .ones + m .below) - 2 ^ m .below
 
--- the bits of b under the mask, as a number of their own
+-- the bits of b under the mask, as a number of their own: b & mask, moved down
 abbrev pub under : Mask → ℕ → ℕ
 under m b = b / 2 ^ m .below % 2 ^ m .ones
 
+-- b & mask is the mask
 abbrev pub allSet : Mask → ℕ → Bool
 allSet m b = eqb (under m b) (2 ^ m .ones - 1)
 
+-- b & mask is 0
 abbrev pub allClear : Mask → ℕ → Bool
 allClear m b = eqb (under m b) 0
 
--- the mask where the flag is on, else no bit
+-- Writing: the mask where the flag is on, else 0
 abbrev pub flag : Bool → ℕ → ℕ
 flag on mask = cond on mask 0
 
--- the masks that the rules name, by their names there
+-- the masks of the rules; proofs/Masks.antt ties each to its number and to b & mask
 abbrev pub x80 : Mask
 x80 = run 1 7
 

@@ -1,7 +1,7 @@
--- Rule 5, the time code: its four bytes read, and made.
+-- Rule 5: the time code, its four bytes read and made.
 use mathlib.Core.Bool.{Bool, false}
 use mathlib.Core.List.{List, [], _∷_}
-use Prim.Native.Nat.{ℕ, _+_, _*_, _/_, _%_}
+use Prim.Native.Nat.{ℕ, _+_, _*_, _/_, _%_, _≤_}
 use lib.Dec.{leb}
 use Rattle.values.specs.Answer.{InvalidFixedBits, NotWritable, refused}
 use Rattle.values.specs.Check.{Check, check, verdict, answer, ifClear}
@@ -14,15 +14,15 @@ abbrev pub timeCode : ℕ → ℕ → ℕ → ℕ → Bool → Bool → TimeCode
 timeCode hours minutes seconds frames field drop =
     record { hours = hours; minutes = minutes; seconds = seconds; frames = frames; field = field; «drop_frame» = drop }
 
--- what stands beside a refusal
+-- zeros, beside a refusal
 abbrev pub noTime : TimeCode
 noTime = timeCode 0 0 0 0 false false
 
--- ten times the tens plus the units: the units are the low four bits, 10 to 15 among them, the tens so many bits above
+-- ten times the tens plus the units: units are the low four bits, 10 to 15 too, and tens the so many bits above them
 unfoldable pub digits : ℕ → ℕ → ℕ
 digits tensBits b = under (run tensBits 4) b * 10 + under x0F b
 
--- the fixed bits, in the order of the bytes: hours have both of C0, minutes have 80, frames have no 40
+-- the fixed bits, in the order of the bytes: hours have both bits of C0, minutes have 80, frames do not have 40
 abbrev pub timeChecks : ℕ → ℕ → ℕ → ℕ → List Check
 timeChecks hours minutes seconds frames =
     check (allSet xC0 hours) InvalidFixedBits
@@ -30,11 +30,12 @@ timeChecks hours minutes seconds frames =
     ∷ check (allClear x40 frames) InvalidFixedBits
     ∷ []
 
--- tens of two bits in hours and frames, of three in minutes and seconds; 80 of seconds is the field, of frames drop frame
+-- two tens bits in hours and frames, three in minutes and seconds; 80 is the field in seconds, drop frame in frames
 abbrev pub timeOf : ℕ → ℕ → ℕ → ℕ → TimeCode
 timeOf hours minutes seconds frames =
     timeCode (digits 2 hours) (digits 3 minutes) (digits 3 seconds) (digits 2 frames) (allSet x80 seconds) (allSet x80 frames)
 
+-- what reading the four bytes gives
 unfoldable pub timeRead : ℕ → ℕ → ℕ → ℕ → TimeCodeRead
 timeRead hours minutes seconds frames =
     let v = verdict (timeChecks hours minutes seconds frames) in
@@ -43,7 +44,7 @@ timeRead hours minutes seconds frames =
 abbrev pub misread : TimeCodeRead
 misread = record { answer = refused InvalidFixedBits; «time_code» = noTime }
 
--- Writing: hours and frames 0 to 39, minutes and seconds 0 to 79
+-- Writing: hours and frames 0 to 39, minutes and seconds 0 to 79; as tests, and as one fact
 abbrev pub timeWriteChecks : TimeCode → List Check
 timeWriteChecks t =
     check (leb (t .hours) 39) NotWritable
@@ -52,10 +53,17 @@ timeWriteChecks t =
     ∷ check (leb (t .frames) 39) NotWritable
     ∷ []
 
--- the tens above the units
+pub record InRange (t : TimeCode) : Type 0 where
+  pub hours : t .hours ≤ 39
+  pub minutes : t .minutes ≤ 79
+  pub seconds : t .seconds ≤ 79
+  pub frames : t .frames ≤ 39
+
+-- the tens above the units, both below ten and so four bits each
 abbrev pub digitBits : ℕ → ℕ
 digitBits value = value / 10 * 16 + value % 10
 
+-- the four bytes, fixed bits set
 abbrev pub timeBytes : TimeCode → List ℕ
 timeBytes t =
     (0xC0 + digitBits (t .hours))
@@ -64,7 +72,8 @@ timeBytes t =
     ∷ (flag (t .«drop_frame») 0x80 + digitBits (t .frames))
     ∷ []
 
-abbrev pub timeWritten : TimeCode → TimeCodeWritten
+-- what making the four bytes gives
+unfoldable pub timeWritten : TimeCode → TimeCodeWritten
 timeWritten t =
     let v = verdict (timeWriteChecks t) in
     record { answer = answer v 0; bytes = ifClear v (timeBytes t) (0 ∷ 0 ∷ 0 ∷ 0 ∷ []) }

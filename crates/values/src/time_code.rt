@@ -1,8 +1,7 @@
-// Rule 5: the time code, four bytes behind its id byte.
+// Rule 5: the time code, the four bytes behind its id byte.
 ghost use mathlib.Core.Path.{_≡_};
-ghost use Prim.Native.Nat.{_≤_, _<_};
+ghost use Prim.Native.Nat.{_%_, _≤_, _<_};
 ghost use lib.ListN.{getD};
-ghost use Rattle.values.specs.Time.{timeCode, noTime, timeRead, timeWritten};
 ghost use Rattle.values.specs.Time as Time;
 use crate::answer::Answer;
 use crate::bits::flag;
@@ -38,7 +37,7 @@ impl TimeCode {
 
     const FRAMES_TENS_BITS: u8 = 2;
 
-    // The largest values that such tens and the units 0 to 9 make.
+    // The largest values that so many tens bits and units up to 9 can hold.
     pub const MAX_HOURS: u8 = 39;
 
     pub const MAX_MINUTES: u8 = 79;
@@ -55,7 +54,7 @@ impl TimeCode {
         field: bool,
         drop_frame: bool,
     ) -> Self
-        ensures { λ r. ⌜ r ≡ timeCode hours minutes seconds frames field «drop_frame» ⌝ }
+        ensures { λ r. ⌜ r ≡ Time.timeCode hours minutes seconds frames field «drop_frame» ⌝ }
     {
         Self {
             hours,
@@ -69,7 +68,7 @@ impl TimeCode {
 
     // Reads hours, minutes, seconds and frames.
     pub fn parse(bytes: [u8; 4]) -> TimeCodeRead
-        ensures { λ r. ⌜ r ≡ timeRead (getD bytes 0 0) (getD bytes 1 0) (getD bytes 2 0) (getD bytes 3 0) ⌝ }
+        ensures { λ r. ⌜ r ≡ Time.timeRead (getD bytes 0 0) (getD bytes 1 0) (getD bytes 2 0) (getD bytes 3 0) ⌝ }
     {
         let hours = bytes[0];
         let minutes = bytes[1];
@@ -92,7 +91,7 @@ impl TimeCode {
 
     // Makes the four bytes, or refuses a value that they cannot hold.
     pub fn to_bytes(self) -> TimeCodeWritten
-        ensures { λ r. ⌜ r ≡ timeWritten self ⌝ }
+        ensures { λ r. ⌜ r ≡ Time.timeWritten self ⌝ }
     {
         if Self::MAX_HOURS < self.hours {
             return Self::unwritten();
@@ -108,13 +107,20 @@ impl TimeCode {
         }
         TimeCodeWritten {
             answer: Answer::done(0),
-            bytes: [
-                0xC0 + digit_bits(self.hours),
-                0x80 + digit_bits(self.minutes),
-                flag(self.field, 0x80) + digit_bits(self.seconds),
-                flag(self.drop_frame, 0x80) + digit_bits(self.frames),
-            ],
+            bytes: self.bytes(),
         }
+    }
+
+    fn bytes(self) -> [u8; 4]
+        requires { ⌜ Time.InRange self ⌝ }
+        ensures { λ r. ⌜ r ≡ Time.timeBytes self ⌝ }
+    {
+        [
+            0xC0 + digit_bits(self.hours),
+            0x80 + digit_bits(self.minutes),
+            flag(self.field, 0x80) + digit_bits(self.seconds),
+            flag(self.drop_frame, 0x80) + digit_bits(self.frames),
+        ]
     }
 
     // What the four bytes say, whatever their fixed bits are.
@@ -150,12 +156,19 @@ impl TimeCode {
     }
 }
 
-// Ten times the tens, which have so many bits, plus the units, which may be over 9.
+// Ten times the tens, which have so many bits, plus the units.
 fn digits(byte: u8, tens_bits: u8) -> u8
     requires { ⌜ «tens_bits» ≤ 3 ⌝ }
     ensures { λ r. ⌜ r ≡ Time.digits «tens_bits» byte ⌝ }
 {
-    byte / 16 % (1 << tens_bits) * 10 + byte % 16
+    byte / 16 % (1 << tens_bits) * 10 + units(byte)
+}
+
+// The low four bits as they are: 10 to 15 are taken.
+fn units(byte: u8) -> u8
+    ensures { λ r. ⌜ r ≡ byte % 16 ⌝ }
+{
+    byte % 16
 }
 
 // The tens above the units.

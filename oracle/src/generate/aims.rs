@@ -16,18 +16,18 @@ fn clear_some(rng: &mut Random, byte: &mut u8, mask: u8) {
 /// Seven bytes, header byte first.
 pub fn entry(rng: &mut Random, bytes: &mut [u8]) {
     match rng.below(12) {
-        0 => bytes[0] &= 0x7F,                                // 4
-        1 => bytes[0] = (bytes[0] | 0xC0) & !0x20,            // 4
-        2 => bytes[4] &= !0x40,                               // 4
-        3 => bytes[4] = 0xC0,                                 // 8, before the header's number
-        4 => field(rng, bytes, 0x80),                         // 4
-        5 => clear_some(rng, &mut bytes[5], 0x3F),            // 4
-        6 => other(rng, &mut bytes[6]),                       // 4
-        7 => bytes[0] ^= rng.bit_of(0x1F),                    // 7
-        8 => bytes[4] ^= rng.bit_of(0x3F),                    // 4, 7 or 8
-        9 => number_on_field(rng, bytes),                     // 7
-        10 => bytes[4] ^= 0x80,                               // 4, 7 or 8
-        _ => bytes[0] ^= rng.bit_of(0xE0),                    // 4 or 7
+        0 => bytes[0] &= 0x7F,                     // 4
+        1 => bytes[0] = (bytes[0] | 0xC0) & !0x20, // 4
+        2 => bytes[4] &= !0x40,                    // 4
+        3 => bytes[4] = 0xC0,                      // 8, before the header's number
+        4 => field(rng, bytes, 0x80),              // 4
+        5 => clear_some(rng, &mut bytes[5], 0x3F), // 4
+        6 => other(rng, &mut bytes[6]),            // 4
+        7 => bytes[0] ^= rng.bit_of(0x1F),         // 7
+        8 => bytes[4] ^= rng.bit_of(0x3F),         // 4, 7 or 8
+        9 => number_on_field(rng, bytes),          // 7
+        10 => bytes[4] ^= 0x80,                    // 4, 7 or 8
+        _ => bytes[0] ^= rng.bit_of(0xE0),         // 4 or 7
     }
 }
 
@@ -49,10 +49,10 @@ fn number_on_field(rng: &mut Random, bytes: &mut [u8]) {
 pub fn section(rng: &mut Random, bytes: &mut [u8]) {
     let entries = bytes.len().saturating_sub(2) / 7;
     match rng.below(if entries == 0 { 4 } else { 12 }) {
-        0 => other(rng, &mut bytes[0]),       // 2
-        1 => bytes[1] &= 0x7F,                // 4
-        2 => bytes[1] ^= rng.bit_of(0x0F),    // 1, or what then stands at the wrong place
-        3 => bytes[1] ^= rng.bit_of(0x70),    // 9 in a packet, none alone
+        0 => other(rng, &mut bytes[0]),    // 2
+        1 => bytes[1] &= 0x7F,             // 4
+        2 => bytes[1] ^= rng.bit_of(0x0F), // 1, or what then stands at the wrong place
+        3 => bytes[1] ^= rng.bit_of(0x70), // 9 in a packet, none alone
         _ => {
             let at = 2 + 7 * rng.below(entries);
             entry(rng, &mut bytes[at..at + 7]);
@@ -63,10 +63,10 @@ pub fn section(rng: &mut Random, bytes: &mut [u8]) {
 fn header(rng: &mut Random, packet: &mut Packet) {
     let bytes = &mut packet.bytes;
     match rng.below(8) {
-        0 => other(rng, &mut bytes[0]),                                       // 2
-        1 => other(rng, &mut bytes[1]),                                       // 2
-        2 => other(rng, &mut bytes[2]),                                       // 1
-        3 => bytes[2] = bytes[2].wrapping_add(rng.pick(&[1, 255])),           // 1
+        0 => other(rng, &mut bytes[0]),                             // 2
+        1 => other(rng, &mut bytes[1]),                             // 2
+        2 => other(rng, &mut bytes[2]),                             // 1
+        3 => bytes[2] = bytes[2].wrapping_add(rng.pick(&[1, 255])), // 1
         4 | 5 => {
             let id = rng.pick(&[0, 9, 10, 11, 12, 13, 14, 15]);
             bytes[3] = (bytes[3] & 0x0F) | (id << 4); // 3
@@ -78,19 +78,19 @@ fn header(rng: &mut Random, packet: &mut Packet) {
 
 fn time(rng: &mut Random, bytes: &mut [u8]) {
     match rng.below(5) {
-        0 => other(rng, &mut bytes[0]),               // 2
+        0 => other(rng, &mut bytes[0]),                // 2
         1 | 2 => clear_some(rng, &mut bytes[1], 0xC0), // 4
-        3 => bytes[2] &= 0x7F,                        // 4
-        _ => bytes[4] |= 0x40,                        // 4
+        3 => bytes[2] &= 0x7F,                         // 4
+        _ => bytes[4] |= 0x40,                         // 4
     }
 }
 
 fn captions(rng: &mut Random, bytes: &mut [u8]) {
     match rng.below(5) {
-        0 => other(rng, &mut bytes[0]),               // 2
+        0 => other(rng, &mut bytes[0]),                // 2
         1 | 2 => clear_some(rng, &mut bytes[1], 0xE0), // 4
-        3 => bytes[1] = 0xFF,                         // 1 in a short packet
-        _ => bytes[1] ^= rng.bit_of(0x1F),            // 1 or 2
+        3 => bytes[1] = 0xFF,                          // 1 in a short packet
+        _ => bytes[1] ^= rng.bit_of(0x1F),             // 1 or 2
     }
 }
 

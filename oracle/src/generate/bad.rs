@@ -12,7 +12,14 @@ const SHAPES: [(&str, &[Word]); 8] = [
     ("T", &[Word::Calls]),
     (
         "W",
-        &[Word::Room, Word::Rate, Word::Sequence, Word::Time, Word::Bytes, Word::Services],
+        &[
+            Word::Room,
+            Word::Rate,
+            Word::Sequence,
+            Word::Time,
+            Word::Bytes,
+            Word::Services,
+        ],
     ),
     ("L", &[Word::Room, Word::List]),
     ("N", &[Word::Room, Word::Entry]),
@@ -24,9 +31,7 @@ const STRANGE: [u8; 14] = [
 ];
 
 /// No operation has one of these letters.
-const LETTERS: [&str; 14] = [
-    "", "p", "f", "s", "e", "t", "w", "l", "n", "A", "PP", "0", "-", "?",
-];
+const LETTERS: [&str; 10] = ["", "p", "f", "s", "w", "A", "PP", "0", "-", "?"];
 
 pub fn step(rng: &mut Random, tape: &mut Tape, turn: u64) {
     let (letter, shape) = SHAPES[(turn % 8) as usize];

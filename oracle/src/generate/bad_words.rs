@@ -63,28 +63,31 @@ pub fn spoilt(rng: &mut Random, word: &Word) -> String {
     }
 }
 
-/// No number, or one past `most`; some would pass if a sum wrapped at 32 or 64 bits.
+/// One of the words of `list`; a space in front of them offers the empty word too.
+fn one_of(rng: &mut Random, list: &str) -> String {
+    let words: Vec<&str> = list.split(' ').collect();
+    rng.pick(&words).to_string()
+}
+
+/// No number, or one past `most`; the long ones would pass if a product wrapped.
 fn number(rng: &mut Random, most: u64) -> String {
-    const TEXTS: [&str; 20] = [
-        "", "-", "+1", "-1", "+0", "-0", "1-", "0x5", "1_0", "1.0", "1e1", "a", "5f", "١", "９５",
-        "99999999999999999999", "18446744073709551616", "18446744073709551711",
-        "340282366920938463463374607431768211551", "4294967296000095",
-    ];
-    match rng.below(4) {
+    match rng.below(5) {
         0 => (most + 1).to_string(),
         1 => (most + 1 + rng.next() % 1000).to_string(),
-        _ => rng.pick(&TEXTS).to_string(),
+        2 => one_of(
+            rng,
+            "4294967391 18446744073709551616 18446744073709551711 99999999999999999999 \
+             340282366920938463463374607431768211551",
+        ),
+        _ => one_of(rng, " - + +1 -1 +0 -0 1- 0x5 1_0 1.0 1e1 a 5f \u{661} \u{ff19}\u{ff15}"),
     }
 }
 
 fn flag(rng: &mut Random) -> String {
-    rng.pick(&["", "2", "9", "00", "01", "10", "-", "+1", "true"]).to_string()
+    one_of(rng, " 2 9 00 01 10 - +1 true")
 }
 
 fn hex(rng: &mut Random) -> String {
-    const TEXTS: [&str; 12] = [
-        "", "--", "0", "00f", "0G", "g0", "Ff", "AB", "0x00", "-00", "00-", "00,00",
-    ];
     if rng.chance(64) {
         return "5a".repeat(4097 + rng.below(3));
     }
@@ -93,8 +96,8 @@ fn hex(rng: &mut Random) -> String {
     match rng.below(4) {
         0 => text[1..].to_string(),
         1 => format!("{}A0", text),
-        2 => format!("{}é", text),
-        _ => rng.pick(&TEXTS).to_string(),
+        2 => format!("{}\u{e9}", text),
+        _ => one_of(rng, " -- 0 00f 0G g0 Ff AB 0x00 -00 00- 00,00"),
     }
 }
 
@@ -115,7 +118,7 @@ fn rate(rng: &mut Random) -> String {
         2 => format!("{}/{}/{}", id, numer, number(rng, u32::MAX.into())),
         3 => format!("{}/{}", numer, denom),
         4 => format!("{}/{}/{}/1", id, numer, denom),
-        _ => rng.pick(&["", "-", "3", "//", "3/25/", "3:25:1", "3/25/1/"]).to_string(),
+        _ => one_of(rng, " - 3 // 3/25/ 3:25:1 3/25/1/"),
     }
 }
 
@@ -128,41 +131,38 @@ fn time(rng: &mut Random) -> String {
         4 => parts[4 + rng.below(2)] = flag(rng),
         5 => parts.truncate(rng.below(6)),
         6 => parts.push("0".to_string()),
-        _ => return rng.pick(&["--", "none", "1:2:3:4", ":::::"]).to_string(),
+        _ => return one_of(rng, "-- none 1:2:3:4 :::::"),
     }
     parts.join(":")
 }
 
 fn language(rng: &mut Random) -> String {
-    const TEXTS: [&str; 8] = [
-        "", "-", "656e6", "656e677", "656E67", "656e6g", "656e6700", "6:6e67",
-    ];
-    rng.pick(&TEXTS).to_string()
+    one_of(rng, " - 656e6 656e677 656E67 656e6g 656e6700 6:6e67")
 }
 
 fn entry(rng: &mut Random) -> String {
-    const TEXTS: [&str; 18] = [
-        "", "d", "f", "d:", "f:1", "f:1:", "g:1:656e67", "D:1:0:0:656e67", "F:1:656e67",
-        "f:0:656e67", "f:3:656e67", "f:01:656e67", "f::656e67", "f:1:656e67:", "d:1:0:656e67",
-        "d:1:0:0:0:656e67", "d1:0:0:656e67", "dd:1:0:0:656e67",
-    ];
-    match rng.below(6) {
+    match rng.below(7) {
         0 => format!("d:{}:0:1:656e67", number(rng, 255)),
         1 => format!("d:1:{}:0:656e67", flag(rng)),
         2 => format!("d:1:0:{}:656e67", flag(rng)),
         3 => format!("d:1:0:0:{}", language(rng)),
         4 => format!("f:2:{}", language(rng)),
-        _ => rng.pick(&TEXTS).to_string(),
+        5 => one_of(
+            rng,
+            " d f d: f:1 f:1: D:1:0:0:656e67 F:1:656e67 g:1:656e67 d:1:0:656e67",
+        ),
+        _ => one_of(
+            rng,
+            "f:0:656e67 f:3:656e67 f:01:656e67 f::656e67 f:1:656e67: \
+             d:1:0:0:0:656e67 d1:0:0:656e67 dd:1:0:0:656e67",
+        ),
     }
 }
 
 /// One malformed entry anywhere, past the fifteenth too, or malformed flags.
 fn list(rng: &mut Random) -> String {
-    const TEXTS: [&str; 10] = [
-        "", "--", "0", "0,0", "0,0,0,0", "000", ",,", ";", "0,0,0;", ";f:1:656e67",
-    ];
     match rng.below(4) {
-        0 => rng.pick(&TEXTS).to_string(),
+        0 => one_of(rng, " -- 0 0,0 0,0,0,0 000 ,, ; 0,0,0; ;f:1:656e67"),
         1 => {
             let mut flags = ["0".to_string(), "1".to_string(), "0".to_string()];
             flags[rng.below(3)] = flag(rng);
@@ -178,11 +178,8 @@ fn list(rng: &mut Random) -> String {
 }
 
 fn calls(rng: &mut Random) -> String {
-    const TEXTS: [&str; 14] = [
-        "", "s", "c", "k", "s2", "c2", "k01", "s00", "S1", "x0", "xx", "y", "-", "len",
-    ];
     let bad = match rng.below(2) {
-        0 => rng.pick(&TEXTS).to_string(),
+        0 => one_of(rng, " s c k s2 c2 k01 s00 S1 x0 xx y - len"),
         _ => entry(rng),
     };
     let mut calls = vec!["s1".to_string(), "x".to_string(), values::entry(rng)];

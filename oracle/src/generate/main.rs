@@ -28,38 +28,30 @@ use tape::Tape;
 /// Prints some lines; the turn lets a family go through its cases in order.
 type Step = fn(&mut Random, &mut Tape, u64);
 
-struct Family {
-    name: &'static str,
-    /// Its part of the lines, in hundredths.
-    share: u64,
-    step: Step,
-}
-
-const fn family(name: &'static str, share: u64, step: Step) -> Family {
-    Family { name, share, step }
-}
+/// Name, share of the lines in hundredths, and what it prints.
+struct Family(&'static str, u64, Step);
 
 static FAMILIES: [Family; 14] = [
-    family("short", 8, short::step),
-    family("boundary", 10, boundary::step),
-    family("damaged", 12, damaged::step),
-    family("refusals", 14, refusals::step),
-    family("future", 6, future::step),
-    family("behind", 6, behind::step),
-    family("sequence", 15, sequence::step),
-    family("big", 1, big::step),
-    family("sections", 6, sections::step),
-    family("entries", 5, entries::step),
-    family("lists", 3, lists::step),
-    family("writes", 8, writes::step),
-    family("pieces", 4, pieces::step),
-    family("bad", 2, bad::step),
+    Family("short", 8, short::step),
+    Family("boundary", 10, boundary::step),
+    Family("damaged", 12, damaged::step),
+    Family("refusals", 14, refusals::step),
+    Family("future", 6, future::step),
+    Family("behind", 6, behind::step),
+    Family("sequence", 15, sequence::step),
+    Family("big", 1, big::step),
+    Family("sections", 6, sections::step),
+    Family("entries", 5, entries::step),
+    Family("lists", 3, lists::step),
+    Family("writes", 8, writes::step),
+    Family("pieces", 4, pieces::step),
+    Family("bad", 2, bad::step),
 ];
 
 fn usage() -> ! {
     eprintln!("usage: generate SEED LINES [FAMILY], where FAMILY is one of");
-    for family in &FAMILIES {
-        eprintln!("  {}", family.name);
+    for Family(name, ..) in &FAMILIES {
+        eprintln!("  {}", name);
     }
     std::process::exit(2)
 }
@@ -72,7 +64,7 @@ fn number(word: Option<&String>) -> u64 {
 }
 
 fn chosen(name: Option<&String>) -> Vec<&'static Family> {
-    let wanted = |family: &&Family| name.map_or(true, |name| family.name == name);
+    let wanted = |family: &&Family| name.map_or(true, |name| family.0 == name);
     FAMILIES.iter().filter(wanted).collect()
 }
 
@@ -81,10 +73,13 @@ fn fill(rng: &mut Random, tape: &mut Tape, families: &[&Family]) {
     let mut printed = vec![0; families.len()];
     let mut turns = vec![0; families.len()];
     while tape.left() > 0 {
-        let behind = |k: &usize| printed[*k] * 1000 / families[*k].share;
-        let k = (0..families.len()).min_by_key(behind).expect("one family at least");
+        let behind = |k: &usize| printed[*k] * 1000 / families[*k].1;
+        let k = (0..families.len())
+            .min_by_key(behind)
+            .expect("one family at least");
         let before = tape.left();
-        (families[k].step)(rng, tape, turns[k]);
+        let Family(_, _, step) = families[k];
+        step(rng, tape, turns[k]);
         printed[k] += before - tape.left();
         turns[k] += 1;
     }

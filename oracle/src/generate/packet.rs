@@ -26,7 +26,11 @@ pub struct Packet {
 }
 
 fn rate(rng: &mut Random) -> u8 {
-    let low = if rng.chance(4) { rng.byte() & 0x0F } else { 0x0F };
+    let low = if rng.chance(4) {
+        rng.byte() & 0x0F
+    } else {
+        0x0F
+    };
     ((1 + rng.below(8) as u8) << 4) | low
 }
 
@@ -100,12 +104,16 @@ impl Plan {
     pub fn build(&self, rng: &mut Random) -> Packet {
         let [high, low] = self.sequence.to_be_bytes();
         let mut bytes = vec![0x96, 0x69, 0, self.rate, self.flags(), high, low];
-        let time = self.time.map(|time| {
-            append(&mut bytes, &[0x71, time[0], time[1], time[2], time[3]])
-        });
+        let time = self
+            .time
+            .map(|time| append(&mut bytes, &[0x71, time[0], time[1], time[2], time[3]]));
         let captions = self.captions.as_ref().map(|part| append(&mut bytes, part));
         let services = self.services.as_ref().map(|part| append(&mut bytes, part));
-        let future = self.future.iter().map(|part| append(&mut bytes, part)).collect();
+        let future = self
+            .future
+            .iter()
+            .map(|part| append(&mut bytes, part))
+            .collect();
         let footer = append(&mut bytes, &[0x74, high, low, 0]);
         append(&mut bytes, &self.behind);
         let mut packet = Packet {

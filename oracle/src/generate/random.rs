@@ -40,15 +40,13 @@ impl Random {
         from[self.below(from.len())]
     }
 
-    /// One of the bits that are set in `mask`.
+    /// One of the bits that are set in `mask`, of which there must be one.
     pub fn bit_of(&mut self, mask: u8) -> u8 {
-        let mut at = self.below(mask.count_ones() as usize);
-        for bit in (0..8).map(|k| 1u8 << k).filter(|bit| mask & bit != 0) {
-            if at == 0 {
-                return bit;
-            }
-            at -= 1;
+        let mut left = mask;
+        for _ in 0..self.below(mask.count_ones() as usize) {
+            // The lowest goes; a search over shifts was compiled wrongly by rustc 1.63 with -O.
+            left &= left - 1;
         }
-        0
+        left & left.wrapping_neg()
     }
 }

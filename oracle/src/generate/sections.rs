@@ -38,7 +38,7 @@ fn sizes(rng: &mut Random, tape: &mut Tape, good: &[u8]) {
     }
     for step in [1, 15] {
         let mut section = good.to_vec();
-        section[1] = (good[1] & 0xF0) | ((good[1] + step) & 0x0F);
+        section[1] = (good[1] & 0xF0) | (good[1].wrapping_add(step) & 0x0F);
         tape.section(&section);
     }
 }

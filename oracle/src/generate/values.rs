@@ -68,7 +68,13 @@ pub fn edge_number(rng: &mut Random) -> u8 {
 pub fn digital(rng: &mut Random, number: u8) -> String {
     let (easy, wide) = (flag(rng), flag(rng));
     let language = bytes(&parts::language(rng));
-    format!("d:{}:{}:{}:{}", decimal(rng, number.into()), easy, wide, language)
+    format!(
+        "d:{}:{}:{}:{}",
+        decimal(rng, number.into()),
+        easy,
+        wide,
+        language
+    )
 }
 
 /// An entry that can be written.

@@ -18,9 +18,17 @@ impl Held {
         let entries = parts::count(rng, 15);
         Held {
             rate: rng.pick(&values::RATES),
-            time: if rng.chance(3) { None } else { Some(values::good_time(rng)) },
+            time: if rng.chance(3) {
+                None
+            } else {
+                Some(values::good_time(rng))
+            },
             captions: 3 * parts::count(rng, 31),
-            entries: if rng.chance(3) { None } else { Some(values::entries(rng, entries)) },
+            entries: if rng.chance(3) {
+                None
+            } else {
+                Some(values::entries(rng, entries))
+            },
         }
     }
 
@@ -52,7 +60,10 @@ impl Held {
             None => "-".to_string(),
             Some(entries) => values::list(rng, entries),
         };
-        format!("W {} {} {} {} {} {}", room, rate, sequence, time, captions, services)
+        format!(
+            "W {} {} {} {} {} {}",
+            room, rate, sequence, time, captions, services
+        )
     }
 }
 

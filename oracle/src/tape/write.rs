@@ -73,13 +73,17 @@ fn packet_text(room: usize, held: Held) -> Option<String> {
     writer.push_packet(DTVCCPacket(held.captions));
     writer.set_service_info(services);
     let mut written = Vec::new();
-    writer.write(rate, &mut written).expect("a vector takes all");
+    writer
+        .write(rate, &mut written)
+        .expect("a vector takes all");
     lend('W', room, &written)
 }
 
 fn section_text(room: usize, list: List) -> Option<String> {
     let mut written = Vec::new();
-    info(&list)?.write(&mut written).expect("a vector takes all");
+    info(&list)?
+        .write(&mut written)
+        .expect("a vector takes all");
     lend('L', room, &written)
 }
 

@@ -1,3 +1,5 @@
+-- `values::checksum::sum`: after k turns the sum is that of the first k bytes, modulo 256.
+-- Assumes nothing.
 use mathlib.Core.Path.{_≡_}
 use Prim.Native.Nat.{_≤_, _<_, _-_, _%_}
 use Rattle.values.proofs.Sums.{total-take}
@@ -8,9 +10,6 @@ use lib.Seq.{take-all}
 use lib.ListN.{length, take}
 use Rattle.values.proofs.checksum.sum.Statement.{statement}
 use Rattle.values.proofs.checksum.sum.Tie as tie
-use Rattle.values.proofs.checksum.sum.Reads as reads
-use Rattle.values.proofs.checksum.sum.Lts as lts
-use Rattle.std.proofs.num.wrapping_add_u8.Reads as wrapping-add-u8-reads
 
 abbrev Inv-loop : tie.InvT-loop
 Inv-loop bytes sum₀ k₀ k-end sum k = (k ≤ length bytes) × (sum ≡ total (take k bytes) % 256)
@@ -18,33 +17,31 @@ Inv-loop bytes sum₀ k₀ k-end sum k = (k ≤ length bytes) × (sum ≡ total 
 abbrev μ-loop : tie.MeasureT-loop
 μ-loop bytes sum₀ k₀ k-end sum k = length bytes - k
 
--- src/checksum.rt:18:5
 loop-holds : tie.Need-loop-holds Inv-loop μ-loop
 loop-holds c = search needs
 
--- src/checksum.rt:19:46
 shared-slice-read-wrapping-add-u8 : tie.Need-shared-slice-read-wrapping-add-u8 Inv-loop μ-loop
 shared-slice-read-wrapping-add-u8 c = search needs
 
--- src/checksum.rt:19:9
 wrapping-add-u8-requires : tie.Need-wrapping-add-u8-requires Inv-loop μ-loop
 wrapping-add-u8-requires c κs = search needs
 
--- src/checksum.rt:18:9
 add-k : tie.Need-add-k Inv-loop μ-loop
 add-k c = search needs
 
--- src/checksum.rt:18:5
 loop-less : tie.Need-loop-less Inv-loop μ-loop
 loop-less c = search needs
 
--- src/checksum.rt:18:5
 loop-again : tie.Need-loop-again Inv-loop μ-loop
-loop-again c = let h : c .before .before .before .loop .k < length (c .before .before .before .before .before .args .bytes .now) = omega arith in (omega arith, rw (total-take _ _ h) (omega (arith, c .wrapping-add-u8 .ensures)))
+loop-again c =
+    let s = c .before .before .before in
+    let h : s .loop .k < length (s .before .before .args .bytes .now) = omega arith in
+    (omega arith, rw (total-take _ _ h) (omega (arith, c .wrapping-add-u8 .ensures)))
 
--- src/checksum.rt:14:1
 returns : tie.Need-returns Inv-loop μ-loop
-returns c = let h : length (c .before .before .before .args .bytes .now) ≤ c .before .loop .k = omega arith in rw take-all at (c .before .loop .inv .1)
+returns c =
+    let h : length (c .before .before .before .args .bytes .now) ≤ c .before .loop .k = omega arith in
+    rw take-all at (c .before .loop .inv .1)
 
 pub sum-spec : {M : Type 1} → statement M
 sum-spec =

@@ -1,41 +1,32 @@
+-- `values::Framerate::from_id` is rule 3: an id of the table is its row, any other is in no row.
+-- Assumes nothing.
 use Rattle.values.proofs.Rates.{in-table, above-table, below-table}
 use mathlib.Core.Path.{_∙_}
 use borrow.Author.Needs.{needs}
 use Rattle.values.proofs.framerate.Framerate.from_id.Statement.{statement}
 use Rattle.values.proofs.framerate.Framerate.from_id.Tie as tie
-use Rattle.values.proofs.framerate.Framerate.from_id.Reads as reads
-use Rattle.values.proofs.framerate.Framerate.from_id.Lts as lts
-use Rattle.values.proofs.framerate.Framerate.absent.Reads as absent-reads
 
--- src/framerate.rt:65:13
 absent-requires : tie.Need-absent-requires
 absent-requires c κs = search needs
 
--- src/framerate.rt:65:13
 returns : tie.Need-returns
 returns c = c .absent .ensures ∙ below-table _ (c .before .if1 .taken)
 
--- src/framerate.rt:68:13
 absent-requires-2 : tie.Need-absent-requires-2
 absent-requires-2 c κs = search needs
 
--- src/framerate.rt:68:13
 returns-2 : tie.Need-returns-2
 returns-2 c = c .absent2 .ensures ∙ above-table _ (c .before .if2 .taken)
 
--- src/framerate.rt:70:18
 cast-at : tie.Need-cast-at
 cast-at c = search needs
 
--- src/framerate.rt:73:24
 mul-t14 : tie.Need-mul-t14
 mul-t14 c = search needs
 
--- src/framerate.rt:73:24
 array-copy-out-t17 : tie.Need-array-copy-out-t17
 array-copy-out-t17 c = search needs
 
--- src/framerate.rt:61:5
 returns-3 : tie.Need-returns-3
 returns-3 c = in-table (c .before .before .before .args .id) (c .before .before .if1 .left) (c .before .if2 .left)
 

@@ -1,66 +1,55 @@
+-- `values::TimeCode::parse` is rule 5: each return is where a test is the first that fails, or where none does.
+-- Assumes nothing.
 use mathlib.Core.Path.{_∙_}
-use Rattle.values.proofs.Times.{hours-wrong, minutes-wrong, frames-wrong, all-right}
-use borrow.Author.Tests.{eq-eqb, ne-eqb}
+use Rattle.values.proofs.TimeReads.{hours-wrong, minutes-wrong, frames-wrong, all-right}
 use borrow.Author.Needs.{needs}
 use Rattle.values.proofs.time_code.TimeCode.parse.Statement.{statement}
 use Rattle.values.proofs.time_code.TimeCode.parse.Tie as tie
-use Rattle.values.proofs.time_code.TimeCode.parse.Reads as reads
-use Rattle.values.proofs.time_code.TimeCode.parse.Lts as lts
-use Rattle.values.proofs.answer.Answer.done.Reads as done-reads
-use Rattle.values.proofs.time_code.TimeCode.misread.Reads as misread-reads
-use Rattle.values.proofs.time_code.TimeCode.value.Reads as value-reads
 
--- src/time_code.rt:74:21
 array-read-hours : tie.Need-array-read-hours
 array-read-hours c = search needs
 
--- src/time_code.rt:75:23
 array-read-minutes : tie.Need-array-read-minutes
 array-read-minutes c = search needs
 
--- src/time_code.rt:76:23
 array-read-seconds : tie.Need-array-read-seconds
 array-read-seconds c = search needs
 
--- src/time_code.rt:77:22
 array-read-frames : tie.Need-array-read-frames
 array-read-frames c = search needs
 
--- src/time_code.rt:79:13
 misread-requires : tie.Need-misread-requires
 misread-requires c κs = search needs
 
--- src/time_code.rt:79:13
 returns : tie.Need-returns
 returns c = c .misread .ensures ∙ hours-wrong _ _ _ _ (c .before .if1 .taken)
 
--- src/time_code.rt:82:13
 misread-requires-2 : tie.Need-misread-requires-2
 misread-requires-2 c κs = search needs
 
--- src/time_code.rt:82:13
 returns-2 : tie.Need-returns-2
-returns-2 c = c .misread2 .ensures ∙ minutes-wrong _ _ _ _ (c .before .before .if1 .left) (c .before .if2 .taken)
+returns-2 c =
+    c .misread2 .ensures
+    ∙ minutes-wrong _ _ _ _ (c .before .before .if1 .left) (c .before .if2 .taken)
 
--- src/time_code.rt:85:13
 misread-requires-3 : tie.Need-misread-requires-3
 misread-requires-3 c κs = search needs
 
--- src/time_code.rt:85:13
 returns-3 : tie.Need-returns-3
-returns-3 c = c .misread3 .ensures ∙ frames-wrong _ _ _ _ (c .before .before .before .if1 .left) (c .before .before .if2 .left) (c .before .if3 .taken)
+returns-3 c =
+    c .misread3 .ensures
+    ∙ frames-wrong _ _ _ _ (c .before .before .before .if1 .left) (c .before .before .if2 .left) (c .before .if3 .taken)
 
--- src/time_code.rt:88:21
 done-requires : tie.Need-done-requires
 done-requires c κs = search needs
 
--- src/time_code.rt:89:24
 value-requires : tie.Need-value-requires
 value-requires c κs = search needs
 
--- src/time_code.rt:71:5
 returns-4 : tie.Need-returns-4
-returns-4 c = rw (c .before .done .ensures, c .value .ensures) (all-right _ _ _ _ (c .before .before .before .before .if1 .left) (c .before .before .before .if2 .left) (c .before .before .if3 .left))
+returns-4 c =
+    rw (c .before .done .ensures, c .value .ensures)
+    (all-right _ _ _ _ (c .before .before .before .before .if1 .left) (c .before .before .before .if2 .left) (c .before .before .if3 .left))
 
 pub parse-spec : {M : Type 1} → statement M
 parse-spec =

@@ -1,29 +1,29 @@
+-- `values::TimeCode::value` reads each byte with its own number of tens bits.
+-- Assumes nothing.
 use borrow.Author.Needs.{needs}
 use Rattle.values.proofs.time_code.TimeCode.value.Statement.{statement}
 use Rattle.values.proofs.time_code.TimeCode.value.Tie as tie
-use Rattle.values.proofs.time_code.TimeCode.value.Reads as reads
-use Rattle.values.proofs.time_code.TimeCode.value.Lts as lts
-use Rattle.values.proofs.time_code.digits.Reads as digits-reads
 
--- src/time_code.rt:125:20
 digits-requires : tie.Need-digits-requires
 digits-requires c κs = search needs
 
--- src/time_code.rt:126:22
 digits-requires-2 : tie.Need-digits-requires-2
 digits-requires-2 c κs = search needs
 
--- src/time_code.rt:127:22
 digits-requires-3 : tie.Need-digits-requires-3
 digits-requires-3 c κs = search needs
 
--- src/time_code.rt:128:21
 digits-requires-4 : tie.Need-digits-requires-4
 digits-requires-4 c κs = search needs
 
--- src/time_code.rt:121:5
 returns : tie.Need-returns
-returns c = simp (c .before .before .before .digits .ensures, c .before .before .digits2 .ensures, c .before .digits3 .ensures, c .digits4 .ensures)
+returns c =
+    simp (
+      c .before .before .before .digits .ensures,
+      c .before .before .digits2 .ensures,
+      c .before .digits3 .ensures,
+      c .digits4 .ensures,
+    )
 
 pub value-spec : {M : Type 1} → statement M
 value-spec =

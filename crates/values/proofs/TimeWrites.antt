@@ -1,35 +1,39 @@
--- Reading a time code, test by test: what the definition gives where a test is the first that fails, and where none does.
+-- Writing a time code, test by test, as with reading; and that reading takes back what writing made.
 -- Assumes nothing.
-use mathlib.Core.Path.{_≡_, _∙_, refl, sym}
+use mathlib.Core.Path.{_≡_, _∙_, sym}
 use mathlib.Core.Bool.{Bool, true, false}
-use Prim.Native.Nat.{ℕ, _+_, _*_, _/_, _%_, _≤_, _<_}
+use Prim.Native.Nat.{ℕ, _+_, _/_, _%_, _≤_, _<_}
 use native.Mathlib.Omega.{arith}
 use lib.ListN.{getD}
-use borrow.Author.Tests.{eq-eqb, ne-eqb}
+use borrow.Author.Tests.{le-leb, lt-leb}
 use Rattle.values.specs.Answer.{done}
-use Rattle.values.specs.Time.{digits, digitBits, timeBytes, timeOf, timeRead, misread}
 use Rattle.values.specs.Mask.{flag, allSet, x80}
+use Rattle.values.specs.Time.{InRange, digits, digitBits, timeBytes, timeRead, timeWritten, unwritten}
 use Rattle.values.proofs.Digits.{digits-back, above-back}
+use Rattle.values.proofs.TimeReads.{all-right}
 use Rattle.values.specs.declared.time_code.TimeCode.{TimeCode}
-use Rattle.values.specs.declared.time_code.TimeCodeRead.{TimeCodeRead}
+use Rattle.values.specs.declared.time_code.TimeCodeWritten.{TimeCodeWritten}
 
-module _ (h m s f : ℕ) where
-  pub hours-wrong : (h / 64 % 4 ≡ 3 → ⊥) → misread ≡ timeRead h m s f
-  unfolding timeRead
-  hours-wrong a = simp (ne-eqb _ _ a)
+module _ (t : TimeCode) where
+  pub hours-over : 39 < t .hours → unwritten ≡ timeWritten t
+  unfolding timeWritten
+  hours-over h = simp (lt-leb _ _ h)
 
-  pub minutes-wrong : h / 64 % 4 ≡ 3 → (m / 128 % 2 ≡ 1 → ⊥) → misread ≡ timeRead h m s f
-  unfolding timeRead
-  minutes-wrong a b = simp (eq-eqb _ _ a, ne-eqb _ _ b)
+  pub minutes-over : t .hours ≤ 39 → 79 < t .minutes → unwritten ≡ timeWritten t
+  unfolding timeWritten
+  minutes-over h m = simp (le-leb _ _ h, lt-leb _ _ m)
 
-  pub frames-wrong : h / 64 % 4 ≡ 3 → m / 128 % 2 ≡ 1 → (f / 64 % 2 ≡ 0 → ⊥) → misread ≡ timeRead h m s f
-  unfolding timeRead
-  frames-wrong a b d = simp (eq-eqb _ _ a, eq-eqb _ _ b, ne-eqb _ _ d)
+  pub seconds-over : t .hours ≤ 39 → t .minutes ≤ 79 → 79 < t .seconds → unwritten ≡ timeWritten t
+  unfolding timeWritten
+  seconds-over h m s = simp (le-leb _ _ h, le-leb _ _ m, lt-leb _ _ s)
 
-  pub all-right : h / 64 % 4 ≡ 3 → m / 128 % 2 ≡ 1 → f / 64 % 2 ≡ 0
-      → _≡_ {A = TimeCodeRead} (record { answer = done 0; «time_code» = timeOf h m s f }) (timeRead h m s f)
-  unfolding timeRead
-  all-right a b d = simp (eq-eqb _ _ a, eq-eqb _ _ b, eq-eqb _ _ d)
+  pub frames-over : t .hours ≤ 39 → t .minutes ≤ 79 → t .seconds ≤ 79 → 39 < t .frames → unwritten ≡ timeWritten t
+  unfolding timeWritten
+  frames-over h m s f = simp (le-leb _ _ h, le-leb _ _ m, le-leb _ _ s, lt-leb _ _ f)
+
+  pub in-range : InRange t → _≡_ {A = TimeCodeWritten} (record { answer = done 0; bytes = timeBytes t }) (timeWritten t)
+  unfolding timeWritten
+  in-range r = simp (le-leb _ _ (r .hours), le-leb _ _ (r .minutes), le-leb _ _ (r .seconds), le-leb _ _ (r .frames))
 
 -- what writing makes, byte by byte: the fixed bits are there, flag and value are read back
 flag-back : (on : Bool) (value : ℕ) → value ≤ 79 → allSet x80 (flag on 0x80 + digitBits value) ≡ on
@@ -55,16 +59,16 @@ minutes-fixed : (value : ℕ) → value ≤ 79 → (0x80 + digitBits value) / 12
 minutes-fixed value h = rw (above-back 3 value 1 (omega arith))
 
 -- a time code in range is read back from the bytes that writing makes of it
-pub time-back : (t : TimeCode) → t .hours ≤ 39 → t .minutes ≤ 79 → t .seconds ≤ 79 → t .frames ≤ 39
+pub time-back : (t : TimeCode) → InRange t
     → timeRead (getD (timeBytes t) 0 0) (getD (timeBytes t) 1 0) (getD (timeBytes t) 2 0) (getD (timeBytes t) 3 0)
     ≡ record { answer = done 0; «time_code» = t }
-time-back t h m s f =
-    sym (all-right _ _ _ _ (hours-fixed (t .hours) h) (minutes-fixed (t .minutes) m) (frames-fixed (t .«drop_frame») (t .frames) f))
+time-back t r =
+    sym (all-right _ _ _ _ (hours-fixed (t .hours) (r .hours)) (minutes-fixed (t .minutes) (r .minutes)) (frames-fixed (t .«drop_frame») (t .frames) (r .frames)))
     ∙ simp (
       digits-back 2 (t .hours) 3 (omega arith),
       digits-back 3 (t .minutes) 1 (omega arith),
-      seconds-back (t .field) (t .seconds) s,
-      frames-back (t .«drop_frame») (t .frames) f,
-      flag-back (t .field) (t .seconds) s,
+      seconds-back (t .field) (t .seconds) (r .seconds),
+      frames-back (t .«drop_frame») (t .frames) (r .frames),
+      flag-back (t .field) (t .seconds) (r .seconds),
       flag-back (t .«drop_frame») (t .frames) (omega arith),
     )

@@ -1,0 +1,69 @@
+// Digests of what is too much to print.
+use values::TimeCode;
+
+// Over every minute, second and frame, one past each limit included, with field and drop frame: what is answered and,
+// where it is done, the four bytes.
+pub fn times(hours: u64) -> u64 {
+    let mut digest = 0;
+    for n in 0..1076004 {
+        digest = time_fed(digest, hours, n);
+    }
+    digest
+}
+
+fn time_fed(digest: u64, hours: u64, n: u64) -> u64 {
+    let time = TimeCode::new(
+        (hours % 256) as u8,
+        (n / 13284 % 81) as u8,
+        (n / 164 % 81) as u8,
+        (n / 4 % 41) as u8,
+        n / 2 % 2 == 1,
+        n % 2 == 1,
+    );
+    let written = time.to_bytes();
+    let bytes = written.bytes;
+    let fed = feed(digest, written.answer.number);
+    if !written.answer.is_done() {
+        return fed;
+    }
+    feed(
+        feed(feed(feed(fed, bytes[0]), bytes[1]), bytes[2]),
+        bytes[3],
+    )
+}
+
+// Over every low byte: the sequence's two bytes, the checksum of the smallest packet that has it, and the sequence read
+// back.
+pub fn sequences(high: u8) -> u64 {
+    let mut digest = 0;
+    for low in 0..256 {
+        digest = sequence_fed(digest, high, low);
+    }
+    digest
+}
+
+fn sequence_fed(digest: u64, high: u8, low: u64) -> u64 {
+    let made = values::sequence_bytes((high as u16) * 256 + (low % 256) as u16);
+    let packet = [
+        0x96u8,
+        0x69,
+        0x0D,
+        0x3F,
+        0x43,
+        made[0],
+        made[1],
+        0x72,
+        0xE0,
+        0x74,
+        made[0],
+        made[1],
+    ];
+    let checksum = values::checksum_byte(&packet);
+    let back = values::sequence_count(made[0], made[1]);
+    let fed = feed(feed(feed(digest, made[0]), made[1]), checksum);
+    feed(feed(fed, (back / 256) as u8), (back % 256) as u8)
+}
+
+fn feed(digest: u64, byte: u8) -> u64 {
+    (digest % 0x1_0000_0000 * 16777619 + byte as u64 + 1) % 0x1_0000_0000
+}
