@@ -18,9 +18,13 @@ timeCode hours minutes seconds frames field drop =
 abbrev pub noTime : TimeCode
 noTime = timeCode 0 0 0 0 false false
 
--- ten times the tens plus the units: units are the low four bits, 10 to 15 too, and tens the so many bits above them
+-- the low four bits, 10 to 15 too
+abbrev pub units : ℕ → ℕ
+units b = under x0F b
+
+-- ten times the tens, the so many bits above the units, plus the units
 unfoldable pub digits : ℕ → ℕ → ℕ
-digits tensBits b = under (run tensBits 4) b * 10 + under x0F b
+digits tensBits b = under (run tensBits 4) b * 10 + units b
 
 -- the fixed bits, in the order of the bytes: hours have both bits of C0, minutes have 80, frames do not have 40
 abbrev pub timeChecks : ℕ → ℕ → ℕ → ℕ → List Check

@@ -1,6 +1,6 @@
 // Rule 5: the time code, the four bytes behind its id byte.
 ghost use mathlib.Core.Path.{_≡_};
-ghost use Prim.Native.Nat.{_%_, _≤_, _<_};
+ghost use Prim.Native.Nat.{_≤_, _<_};
 ghost use lib.ListN.{getD};
 ghost use Rattle.values.specs.Time as Time;
 use crate::answer::Answer;
@@ -166,7 +166,7 @@ fn digits(byte: u8, tens_bits: u8) -> u8
 
 // The low four bits as they are: 10 to 15 are taken.
 fn units(byte: u8) -> u8
-    ensures { λ r. ⌜ r ≡ byte % 16 ⌝ }
+    ensures { λ r. ⌜ r ≡ Time.units byte ⌝ }
 {
     byte % 16
 }

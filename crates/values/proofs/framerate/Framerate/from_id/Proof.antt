@@ -2,6 +2,7 @@
 -- Assumes nothing.
 use Rattle.values.proofs.Rates.{in-table, above-table, below-table}
 use mathlib.Core.Path.{_∙_}
+use native.Mathlib.Omega.{arith}
 use borrow.Author.Needs.{needs}
 use Rattle.values.proofs.framerate.Framerate.from_id.Statement.{statement}
 use Rattle.values.proofs.framerate.Framerate.from_id.Tie as tie
@@ -10,13 +11,13 @@ absent-requires : tie.Need-absent-requires
 absent-requires c κs = search needs
 
 returns : tie.Need-returns
-returns c = c .absent .ensures ∙ below-table _ (c .before .if1 .taken)
+returns c = c .absent .ensures ∙ below-table _ (omega arith)
 
 absent-requires-2 : tie.Need-absent-requires-2
 absent-requires-2 c κs = search needs
 
 returns-2 : tie.Need-returns-2
-returns-2 c = c .absent2 .ensures ∙ above-table _ (c .before .if2 .taken)
+returns-2 c = c .absent2 .ensures ∙ above-table _ (omega arith)
 
 cast-at : tie.Need-cast-at
 cast-at c = search needs
@@ -28,7 +29,7 @@ array-copy-out-t17 : tie.Need-array-copy-out-t17
 array-copy-out-t17 c = search needs
 
 returns-3 : tie.Need-returns-3
-returns-3 c = in-table (c .before .before .before .args .id) (c .before .before .if1 .left) (c .before .if2 .left)
+returns-3 c = in-table (c .before .before .before .args .id) (omega arith) (omega arith)
 
 pub from-id-spec : {M : Type 1} → statement M
 from-id-spec =
