@@ -3,20 +3,23 @@
 use mathlib.Core.Path.{_≡_}
 use Prim.Native.Nat.{ℕ, _/_, _%_}
 use borrow.Author.Tests.{eq-eqb, ne-eqb}
-use Rattle.values.specs.Answer.{done}
-use Rattle.values.specs.Time.{timeOf, timeRead, misread}
+use Rattle.values.specs.Answer.{InvalidFixedBits, done, refused}
+use Rattle.values.specs.Time.{noTime, timeOf, timeRead}
 use Rattle.values.specs.declared.time_code.TimeCodeRead.{TimeCodeRead}
 
+abbrev pub refusedRead : TimeCodeRead
+refusedRead = record { answer = refused InvalidFixedBits; «time_code» = noTime }
+
 module _ (h m s f : ℕ) where
-  pub hours-wrong : (h / 64 % 4 ≡ 3 → ⊥) → misread ≡ timeRead h m s f
+  pub hours-wrong : (h / 64 % 4 ≡ 3 → ⊥) → refusedRead ≡ timeRead h m s f
   unfolding timeRead
   hours-wrong a = simp (ne-eqb _ _ a)
 
-  pub minutes-wrong : h / 64 % 4 ≡ 3 → (m / 128 % 2 ≡ 1 → ⊥) → misread ≡ timeRead h m s f
+  pub minutes-wrong : h / 64 % 4 ≡ 3 → (m / 128 % 2 ≡ 1 → ⊥) → refusedRead ≡ timeRead h m s f
   unfolding timeRead
   minutes-wrong a b = simp (eq-eqb _ _ a, ne-eqb _ _ b)
 
-  pub frames-wrong : h / 64 % 4 ≡ 3 → m / 128 % 2 ≡ 1 → (f / 64 % 2 ≡ 0 → ⊥) → misread ≡ timeRead h m s f
+  pub frames-wrong : h / 64 % 4 ≡ 3 → m / 128 % 2 ≡ 1 → (f / 64 % 2 ≡ 0 → ⊥) → refusedRead ≡ timeRead h m s f
   unfolding timeRead
   frames-wrong a b d = simp (eq-eqb _ _ a, eq-eqb _ _ b, ne-eqb _ _ d)
 

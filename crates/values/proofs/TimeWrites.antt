@@ -2,32 +2,36 @@
 -- Assumes nothing.
 use mathlib.Core.Path.{_≡_, _∙_, sym}
 use mathlib.Core.Bool.{Bool, true, false}
+use mathlib.Core.List.{[], _∷_}
 use Prim.Native.Nat.{ℕ, _+_, _/_, _%_, _≤_, _<_}
 use native.Mathlib.Omega.{arith}
 use lib.ListN.{getD}
 use borrow.Author.Tests.{le-leb, lt-leb}
-use Rattle.values.specs.Answer.{done}
+use Rattle.values.specs.Answer.{NotWritable, done, refused}
 use Rattle.values.specs.Mask.{flag, allSet, x80}
-use Rattle.values.specs.Time.{InRange, digits, digitBits, timeBytes, timeRead, timeWritten, unwritten}
+use Rattle.values.specs.Time.{InRange, digits, digitBits, timeBytes, timeRead, timeWritten}
 use Rattle.values.proofs.Digits.{digits-back, above-back}
 use Rattle.values.proofs.TimeReads.{all-right}
 use Rattle.values.specs.declared.time_code.TimeCode.{TimeCode}
 use Rattle.values.specs.declared.time_code.TimeCodeWritten.{TimeCodeWritten}
 
+abbrev pub refusedWrite : TimeCodeWritten
+refusedWrite = record { answer = refused NotWritable; bytes = 0 ∷ 0 ∷ 0 ∷ 0 ∷ [] }
+
 module _ (t : TimeCode) where
-  pub hours-over : 39 < t .hours → unwritten ≡ timeWritten t
+  pub hours-over : 39 < t .hours → refusedWrite ≡ timeWritten t
   unfolding timeWritten
   hours-over h = simp (lt-leb _ _ h)
 
-  pub minutes-over : t .hours ≤ 39 → 79 < t .minutes → unwritten ≡ timeWritten t
+  pub minutes-over : t .hours ≤ 39 → 79 < t .minutes → refusedWrite ≡ timeWritten t
   unfolding timeWritten
   minutes-over h m = simp (le-leb _ _ h, lt-leb _ _ m)
 
-  pub seconds-over : t .hours ≤ 39 → t .minutes ≤ 79 → 79 < t .seconds → unwritten ≡ timeWritten t
+  pub seconds-over : t .hours ≤ 39 → t .minutes ≤ 79 → 79 < t .seconds → refusedWrite ≡ timeWritten t
   unfolding timeWritten
   seconds-over h m s = simp (le-leb _ _ h, le-leb _ _ m, lt-leb _ _ s)
 
-  pub frames-over : t .hours ≤ 39 → t .minutes ≤ 79 → t .seconds ≤ 79 → 39 < t .frames → unwritten ≡ timeWritten t
+  pub frames-over : t .hours ≤ 39 → t .minutes ≤ 79 → t .seconds ≤ 79 → 39 < t .frames → refusedWrite ≡ timeWritten t
   unfolding timeWritten
   frames-over h m s f = simp (le-leb _ _ h, le-leb _ _ m, le-leb _ _ s, lt-leb _ _ f)
 

@@ -3,7 +3,7 @@ use mathlib.Core.Bool.{Bool, false}
 use mathlib.Core.List.{List, [], _∷_}
 use Prim.Native.Nat.{ℕ, _+_, _*_, _/_, _%_, _≤_}
 use lib.Dec.{leb}
-use Rattle.values.specs.Answer.{InvalidFixedBits, NotWritable, refused}
+use Rattle.values.specs.Answer.{InvalidFixedBits, NotWritable}
 use Rattle.values.specs.Check.{Check, check, verdict, answer, ifClear}
 use Rattle.values.specs.Mask.{under, run, allSet, allClear, flag, x80, x40, xC0, x0F}
 use Rattle.values.specs.declared.time_code.TimeCode.{TimeCode}
@@ -45,9 +45,6 @@ timeRead hours minutes seconds frames =
     let v = verdict (timeChecks hours minutes seconds frames) in
     record { answer = answer v 0; «time_code» = ifClear v (timeOf hours minutes seconds frames) noTime }
 
-abbrev pub misread : TimeCodeRead
-misread = record { answer = refused InvalidFixedBits; «time_code» = noTime }
-
 -- Writing: hours and frames 0 to 39, minutes and seconds 0 to 79; as tests, and as one fact
 abbrev pub timeWriteChecks : TimeCode → List Check
 timeWriteChecks t =
@@ -81,6 +78,3 @@ unfoldable pub timeWritten : TimeCode → TimeCodeWritten
 timeWritten t =
     let v = verdict (timeWriteChecks t) in
     record { answer = answer v 0; bytes = ifClear v (timeBytes t) (0 ∷ 0 ∷ 0 ∷ 0 ∷ []) }
-
-abbrev pub unwritten : TimeCodeWritten
-unwritten = record { answer = refused NotWritable; bytes = 0 ∷ 0 ∷ 0 ∷ 0 ∷ [] }

@@ -1,6 +1,6 @@
 // Rule 3: the eight rates.
 ghost use mathlib.Core.Path.{_≡_};
-ghost use Rattle.values.specs.Rate.{fromId, known, noRate};
+ghost use Rattle.values.specs.Rate.{fromId, known};
 
 pub struct Framerate {
     pub id: u8,
@@ -12,6 +12,17 @@ pub struct Framerate {
 pub struct MaybeFramerate {
     pub present: bool,
     pub framerate: Framerate,
+}
+
+impl MaybeFramerate {
+    pub const ABSENT: Self = Self {
+        present: false,
+        framerate: Framerate {
+            id: 0,
+            numer: 0,
+            denom: 0,
+        },
+    };
 }
 
 const FRAMERATES: [Framerate; 8] = [
@@ -62,10 +73,10 @@ impl Framerate {
         ensures { λ r. ⌜ r ≡ fromId id ⌝ }
     {
         if id < 1 {
-            return Self::absent();
+            return MaybeFramerate::ABSENT;
         }
         if 8 < id {
-            return Self::absent();
+            return MaybeFramerate::ABSENT;
         }
         let at = (id - 1) as usize;
         MaybeFramerate {
@@ -86,18 +97,5 @@ impl Framerate {
             return false;
         }
         found.framerate.denom == self.denom
-    }
-
-    fn absent() -> MaybeFramerate
-        ensures { λ r. ⌜ r ≡ noRate ⌝ }
-    {
-        MaybeFramerate {
-            present: false,
-            framerate: Framerate {
-                id: 0,
-                numer: 0,
-                denom: 0,
-            },
-        }
     }
 }

@@ -27,7 +27,31 @@ pub struct TimeCodeWritten {
     pub bytes: [u8; 4],
 }
 
+impl TimeCodeRead {
+    const REFUSED: Self = Self {
+        answer: Answer::INVALID_FIXED_BITS,
+        time_code: TimeCode::NONE,
+    };
+}
+
+impl TimeCodeWritten {
+    const REFUSED: Self = Self {
+        answer: Answer::NOT_WRITABLE,
+        bytes: [0; 4],
+    };
+}
+
 impl TimeCode {
+    // Zeros, where there is no time code.
+    pub const NONE: Self = Self {
+        hours: 0,
+        minutes: 0,
+        seconds: 0,
+        frames: 0,
+        field: false,
+        drop_frame: false,
+    };
+
     // How many tens bits the four bytes have.
     const HOURS_TENS_BITS: u8 = 2;
 
@@ -75,13 +99,13 @@ impl TimeCode {
         let seconds = bytes[2];
         let frames = bytes[3];
         if hours / 64 % 4 != 3 {
-            return Self::misread();
+            return TimeCodeRead::REFUSED;
         }
         if minutes / 128 % 2 != 1 {
-            return Self::misread();
+            return TimeCodeRead::REFUSED;
         }
         if frames / 64 % 2 != 0 {
-            return Self::misread();
+            return TimeCodeRead::REFUSED;
         }
         TimeCodeRead {
             answer: Answer::done(0),
@@ -94,16 +118,16 @@ impl TimeCode {
         ensures { λ r. ⌜ r ≡ Time.timeWritten self ⌝ }
     {
         if Self::MAX_HOURS < self.hours {
-            return Self::unwritten();
+            return TimeCodeWritten::REFUSED;
         }
         if Self::MAX_MINUTES < self.minutes {
-            return Self::unwritten();
+            return TimeCodeWritten::REFUSED;
         }
         if Self::MAX_SECONDS < self.seconds {
-            return Self::unwritten();
+            return TimeCodeWritten::REFUSED;
         }
         if Self::MAX_FRAMES < self.frames {
-            return Self::unwritten();
+            return TimeCodeWritten::REFUSED;
         }
         TimeCodeWritten {
             answer: Answer::done(0),
@@ -134,24 +158,6 @@ impl TimeCode {
             frames: digits(frames, Self::FRAMES_TENS_BITS),
             field: seconds / 128 % 2 == 1,
             drop_frame: frames / 128 % 2 == 1,
-        }
-    }
-
-    fn misread() -> TimeCodeRead
-        ensures { λ r. ⌜ r ≡ Time.misread ⌝ }
-    {
-        TimeCodeRead {
-            answer: Answer::invalid_fixed_bits(),
-            time_code: Self::new(0, 0, 0, 0, false, false),
-        }
-    }
-
-    fn unwritten() -> TimeCodeWritten
-        ensures { λ r. ⌜ r ≡ Time.unwritten ⌝ }
-    {
-        TimeCodeWritten {
-            answer: Answer::not_writable(),
-            bytes: [0; 4],
         }
     }
 }

@@ -1,6 +1,5 @@
 -- `values::TimeCode::parse` is rule 5: each return is where a test is the first that fails, or where none does.
 -- Assumes nothing.
-use mathlib.Core.Path.{_∙_}
 use Rattle.values.proofs.TimeReads.{hours-wrong, minutes-wrong, frames-wrong, all-right}
 use borrow.Author.Needs.{needs}
 use Rattle.values.proofs.time_code.TimeCode.parse.Statement.{statement}
@@ -18,27 +17,14 @@ array-read-seconds c = search needs
 array-read-frames : tie.Need-array-read-frames
 array-read-frames c = search needs
 
-misread-requires : tie.Need-misread-requires
-misread-requires c κs = search needs
-
 returns : tie.Need-returns
-returns c = c .misread .ensures ∙ hours-wrong _ _ _ _ (c .before .if1 .taken)
-
-misread-requires-2 : tie.Need-misread-requires-2
-misread-requires-2 c κs = search needs
+returns c = hours-wrong _ _ _ _ (c .if1 .taken)
 
 returns-2 : tie.Need-returns-2
-returns-2 c =
-    c .misread2 .ensures
-    ∙ minutes-wrong _ _ _ _ (c .before .before .if1 .left) (c .before .if2 .taken)
-
-misread-requires-3 : tie.Need-misread-requires-3
-misread-requires-3 c κs = search needs
+returns-2 c = minutes-wrong _ _ _ _ (c .before .if1 .left) (c .if2 .taken)
 
 returns-3 : tie.Need-returns-3
-returns-3 c =
-    c .misread3 .ensures
-    ∙ frames-wrong _ _ _ _ (c .before .before .before .if1 .left) (c .before .before .if2 .left) (c .before .if3 .taken)
+returns-3 c = frames-wrong _ _ _ _ (c .before .before .if1 .left) (c .before .if2 .left) (c .if3 .taken)
 
 done-requires : tie.Need-done-requires
 done-requires c κs = search needs
@@ -48,8 +34,9 @@ value-requires c κs = search needs
 
 returns-4 : tie.Need-returns-4
 returns-4 c =
+    let tests = c .before .before in
     rw (c .before .done .ensures, c .value .ensures)
-    (all-right _ _ _ _ (c .before .before .before .before .if1 .left) (c .before .before .before .if2 .left) (c .before .before .if3 .left))
+    (all-right _ _ _ _ (tests .before .before .if1 .left) (tests .before .if2 .left) (tests .if3 .left))
 
 pub parse-spec : {M : Type 1} → statement M
 parse-spec =
@@ -59,11 +46,8 @@ parse-spec =
     array-read-minutes
     array-read-seconds
     array-read-frames
-    misread-requires
     returns
-    misread-requires-2
     returns-2
-    misread-requires-3
     returns-3
     done-requires
     value-requires
