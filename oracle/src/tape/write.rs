@@ -80,10 +80,13 @@ fn packet_text(room: usize, held: Held) -> Option<String> {
 }
 
 fn section_text(room: usize, list: List) -> Option<String> {
+    let mut info = info(&list)?;
     let mut written = Vec::new();
-    info(&list)?
-        .write(&mut written)
-        .expect("a vector takes all");
+    info.write(&mut written).expect("a vector takes all");
+    // The Rust has a second section writer, for which the same transcript must stand.
+    let mut again = vec![FILL; info.byte_len()];
+    let length = info.write_into_unchecked(&mut again);
+    assert_eq!(again[..length], written[..], "the two writers differ");
     lend('L', room, &written)
 }
 
