@@ -1,7 +1,6 @@
 // One line of the sweep each.
 use crate::digest;
 use crate::print;
-use crate::print::bit;
 use crate::print::decimal;
 use crate::print::hex;
 use crate::print::word;
@@ -13,17 +12,13 @@ pub fn rate(id: u64) {
     let found = Framerate::from_id((id % 256) as u8);
     word(b"rate ");
     decimal(id);
+    word(b" ");
     if found.present {
-        word(b" ");
-        decimal(found.framerate.id as u64);
-        word(b"/");
-        decimal(found.framerate.numer as u64);
-        word(b"/");
-        decimal(found.framerate.denom as u64);
-        word(b"\n");
+        print::rate(found.framerate);
     } else {
-        word(b" none\n");
+        word(b"none");
     }
+    word(b"\n");
 }
 
 pub fn flags(byte: u64) {
@@ -31,18 +26,8 @@ pub fn flags(byte: u64) {
     let f = Flags::from_byte(b);
     word(b"flags ");
     hex(b);
-    word(b" ");
-    bit(f.time_code);
-    word(b" ");
-    bit(f.cc_data);
-    word(b" ");
-    bit(f.svc_info);
-    word(b" ");
-    bit(f.svc_info_start);
-    word(b" ");
-    bit(f.svc_info_change);
-    word(b" ");
-    bit(f.svc_info_complete);
+    print::three(f.time_code, f.cc_data, f.svc_info);
+    print::three(f.svc_info_start, f.svc_info_change, f.svc_info_complete);
     word(b"\n");
 }
 

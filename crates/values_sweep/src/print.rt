@@ -1,5 +1,6 @@
 // Words, numbers and flags on standard output.
 use libc::STDOUT_FILENO;
+use values::Framerate;
 use values::TimeCode;
 
 pub fn word(text: &[u8]) {
@@ -22,16 +23,35 @@ pub fn bit(on: bool) {
     }
 }
 
+// Three flags, a space before each.
+pub fn three(a: bool, b: bool, c: bool) {
+    word(b" ");
+    bit(a);
+    word(b" ");
+    bit(b);
+    word(b" ");
+    bit(c);
+}
+
+pub fn rate(r: Framerate) {
+    decimal(r.id as u64);
+    word(b"/");
+    decimal(r.numer as u64);
+    word(b"/");
+    decimal(r.denom as u64);
+}
+
 pub fn time(t: TimeCode) {
-    decimal(t.hours as u64);
-    word(b":");
-    decimal(t.minutes as u64);
-    word(b":");
-    decimal(t.seconds as u64);
-    word(b":");
-    decimal(t.frames as u64);
-    word(b":");
+    value(t.hours);
+    value(t.minutes);
+    value(t.seconds);
+    value(t.frames);
     bit(t.field);
     word(b":");
     bit(t.drop_frame);
+}
+
+fn value(n: u8) {
+    decimal(n as u64);
+    word(b":");
 }
