@@ -3,7 +3,7 @@ ghost use mathlib.Core.Path.{_≡_};
 ghost use Prim.Native.Nat.{_%_};
 ghost use Rattle.values.specs.Checksum.{total, negative};
 
-// What makes the bytes and it sum to 0 modulo 256.
+// The byte that brings the sum of the bytes to 0 modulo 256. The complement plus 1 is the negative, in one byte.
 pub fn checksum_byte(bytes: &[u8]) -> u8
     ensures { λ r. ⌜ r ≡ negative (total (now (bytes .entry))) ⌝ }
 {

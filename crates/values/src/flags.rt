@@ -1,4 +1,4 @@
-// Rule 4: the flag byte.
+// Rule 4: the flag byte. Each constant is a mask with one bit, so that a quotient by it moves the bit down.
 ghost use mathlib.Core.Path.{_≡_};
 ghost use Rattle.values.specs.Flags.{flagsOf, flagByte};
 use crate::bits::flag;
@@ -29,6 +29,7 @@ impl Flags {
 
     pub const RESERVED: u8 = 0x01;
 
+    // Bits 02 and 01 are not read.
     pub fn from_byte(byte: u8) -> Self
         ensures { λ r. ⌜ r ≡ flagsOf byte ⌝ }
     {
@@ -42,6 +43,7 @@ impl Flags {
         }
     }
 
+    // Bits 02 and 01 are always set.
     pub fn to_byte(self) -> u8
         ensures { λ r. ⌜ r ≡ flagByte self ⌝ }
     {

@@ -8,7 +8,7 @@ pub struct Framerate {
     pub denom: u32,
 }
 
-// A rate that may be absent: then it is zeros.
+// A rate that may be absent; then it is zeros.
 pub struct MaybeFramerate {
     pub present: bool,
     pub framerate: Framerate,
@@ -69,6 +69,7 @@ const FRAMERATES: [Framerate; 8] = [
 ];
 
 impl Framerate {
+    // The rate with this id, or none.
     pub fn from_id(id: u8) -> MaybeFramerate
         ensures { λ r. ⌜ r ≡ fromId id ⌝ }
     {

@@ -8,6 +8,7 @@ pub fn sequence_count(high: u8, low: u8) -> u16
     (high as u16) * 256 + low as u16
 }
 
+// The two bytes, as header and footer have them.
 pub fn sequence_bytes(sequence: u16) -> [u8; 2]
     ensures { λ r. ⌜ r ≡ sequenceBytes sequence ⌝ }
 {

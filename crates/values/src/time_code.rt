@@ -15,13 +15,13 @@ pub struct TimeCode {
     pub drop_frame: bool,
 }
 
-// A refusal has zeros beside it.
+// What reading gives: beside a refusal, no time code.
 pub struct TimeCodeRead {
     pub answer: Answer,
     pub time_code: TimeCode,
 }
 
-// A refusal has zeros beside it.
+// What making the bytes gives: beside a refusal, zeros.
 pub struct TimeCodeWritten {
     pub answer: Answer,
     pub bytes: [u8; 4],
@@ -70,6 +70,7 @@ impl TimeCode {
 
     pub const MAX_FRAMES: u8 = 39;
 
+    // The six values as they are; what cannot be written is refused in writing.
     pub fn new(
         hours: u8,
         minutes: u8,
@@ -90,7 +91,7 @@ impl TimeCode {
         }
     }
 
-    // Reads hours, minutes, seconds and frames.
+    // Reads hours, minutes, seconds and frames, in that order.
     pub fn parse(bytes: [u8; 4]) -> TimeCodeRead
         ensures { λ r. ⌜ r ≡ Time.timeRead (getD bytes 0 0) (getD bytes 1 0) (getD bytes 2 0) (getD bytes 3 0) ⌝ }
     {
@@ -98,12 +99,15 @@ impl TimeCode {
         let minutes = bytes[1];
         let seconds = bytes[2];
         let frames = bytes[3];
+        // Both bits of C0 are set.
         if hours / 64 % 4 != 3 {
             return TimeCodeRead::REFUSED;
         }
+        // Bit 80 is set.
         if minutes / 128 % 2 != 1 {
             return TimeCodeRead::REFUSED;
         }
+        // Bit 40 is clear.
         if frames / 64 % 2 != 0 {
             return TimeCodeRead::REFUSED;
         }
@@ -135,6 +139,7 @@ impl TimeCode {
         }
     }
 
+    // The fixed bits, the flags above and the digits below.
     fn bytes(self) -> [u8; 4]
         requires { ⌜ Time.InRange self ⌝ }
         ensures { λ r. ⌜ r ≡ Time.timeBytes self ⌝ }
