@@ -1,14 +1,37 @@
 // Digests of what is too much to print.
 use values::TimeCode;
 
-// Over every minute, second and frame, one past each limit included, with field and drop frame: what is answered and,
-// where it is done, the four bytes.
+// What a digest goes over.
+enum Block {
+    // Every minute, second and frame of an hour, one past each limit included, with field and drop frame: what is
+    // answered and, where it is done, the four bytes.
+    Times,
+    // Every low byte of a high one: the sequence's two bytes, the checksum of the smallest packet that has it, and the
+    // sequence read back.
+    Sequences,
+}
+
 pub fn times(hours: u64) -> u64 {
+    over(Block::Times, hours, 1076004)
+}
+
+pub fn sequences(high: u64) -> u64 {
+    over(Block::Sequences, high, 256)
+}
+
+fn over(block: Block, first: u64, count: u64) -> u64 {
     let mut digest = 0;
-    for n in 0..1076004 {
-        digest = time_fed(digest, hours, n);
+    for n in 0..count {
+        digest = fed(block, digest, first, n);
     }
     digest
+}
+
+fn fed(block: Block, digest: u64, first: u64, n: u64) -> u64 {
+    match block {
+        Block::Times => time_fed(digest, first, n),
+        Block::Sequences => sequence_fed(digest, first, n),
+    }
 }
 
 fn time_fed(digest: u64, hours: u64, n: u64) -> u64 {
@@ -32,18 +55,8 @@ fn time_fed(digest: u64, hours: u64, n: u64) -> u64 {
     )
 }
 
-// Over every low byte: the sequence's two bytes, the checksum of the smallest packet that has it, and the sequence read
-// back.
-pub fn sequences(high: u8) -> u64 {
-    let mut digest = 0;
-    for low in 0..256 {
-        digest = sequence_fed(digest, high, low);
-    }
-    digest
-}
-
-fn sequence_fed(digest: u64, high: u8, low: u64) -> u64 {
-    let made = values::sequence_bytes((high as u16) * 256 + (low % 256) as u16);
+fn sequence_fed(digest: u64, high: u64, low: u64) -> u64 {
+    let made = values::sequence_bytes((high % 256 * 256 + low % 256) as u16);
     let packet = [
         0x96u8,
         0x69,

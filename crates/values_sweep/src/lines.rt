@@ -81,6 +81,6 @@ pub fn sequence(high: u64) {
     word(b"sequence ");
     hex((high % 256) as u8);
     word(b" ");
-    decimal(digest::sequences((high % 256) as u8));
+    decimal(digest::sequences(high));
     word(b"\n");
 }
