@@ -1,6 +1,7 @@
 pub mod Answer
 pub mod Check
 pub mod Mask
+pub mod Packet
 pub mod Rate
 pub mod Flags
 pub mod Sequence

@@ -129,4 +129,23 @@ impl Answer {
     {
         self.number == 0
     }
+
+    // Nothing calls this: its contract holds every constant above to the table.
+    fn held() -> [Self; 11]
+        ensures { λ r. ⌜ r ≡ Table.constants ⌝ }
+    {
+        [
+            Self::WRONG_MAGIC,
+            Self::UNKNOWN_FRAMERATE,
+            Self::INVALID_FIXED_BITS,
+            Self::CHECKSUM_FAILED,
+            Self::SEQUENCE_COUNT_MISMATCH,
+            Self::SERVICE_NUMBER_MISMATCH,
+            Self::INVALID_SERVICE_NUMBER,
+            Self::SERVICE_FLAGS_MISMATCHED,
+            Self::WOULD_OVERFLOW,
+            Self::NOT_WRITABLE,
+            Self::WRONG_CAPTION_RUN,
+        ]
+    }
 }
