@@ -38,6 +38,7 @@ rows =
     ∷ row Mask.x3E 0x3E
     ∷ row Mask.x1F 0x1F
     ∷ row Mask.x0F 0x0F
+    ∷ row Mask.x01 0x01
     ∷ []
 
 -- what a row says of every byte: the bits under the mask, that all of them are set, and that none is

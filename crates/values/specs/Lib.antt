@@ -1,4 +1,5 @@
 pub mod Answer
+pub mod Bytes
 pub mod Check
 pub mod Mask
 pub mod Packet

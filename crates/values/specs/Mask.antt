@@ -76,3 +76,6 @@ x1F = run 5 0
 
 abbrev pub x0F : Mask
 x0F = run 4 0
+
+abbrev pub x01 : Mask
+x01 = run 1 0

@@ -1,6 +1,7 @@
 // The values of a caption distribution packet: what lib.rs of the Rust has.
 mod answer;
 mod bits;
+mod buffer;
 mod checksum;
 mod flags;
 mod framerate;
@@ -10,6 +11,7 @@ mod time_code;
 
 pub use answer::Answer;
 pub use bits::flag;
+pub use buffer::put;
 pub use checksum::checksum_byte;
 pub use flags::Flags;
 pub use framerate::Framerate;

@@ -1,4 +1,5 @@
 // Digests of what is too much to print.
+use report::feed;
 use values::TimeCode;
 
 // What a digest goes over.
@@ -75,8 +76,4 @@ fn sequence_fed(digest: u64, high: u64, low: u64) -> u64 {
     let back = values::sequence_count(made[0], made[1]);
     let fed = feed(feed(feed(digest, made[0]), made[1]), checksum);
     feed(feed(fed, (back / 256) as u8), (back % 256) as u8)
-}
-
-fn feed(digest: u64, byte: u8) -> u64 {
-    (digest % 0x1_0000_0000 * 16777619 + byte as u64 + 1) % 0x1_0000_0000
 }

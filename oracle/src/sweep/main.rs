@@ -1,6 +1,9 @@
 //! Prints a small space of inputs whole, as lines or as a digest for each block.
 
 mod digest;
+#[path = "../tape/refusal.rs"]
+mod refusal;
+mod services;
 #[allow(dead_code)] // Of the transcript's spellings a sweep needs only some.
 #[path = "../tape/show.rs"]
 mod show;
@@ -11,7 +14,7 @@ use std::io::{self, BufWriter, Write};
 type Sweep = fn(&mut dyn Write) -> io::Result<()>;
 
 /// A further sweep is one more row.
-const SWEEPS: [(&str, Sweep); 1] = [("values", values::sweep)];
+const SWEEPS: [(&str, Sweep); 2] = [("values", values::sweep), ("services", services::sweep)];
 
 fn main() -> io::Result<()> {
     let given: Vec<String> = std::env::args().skip(1).collect();

@@ -2,6 +2,7 @@
 
 mod line;
 mod read;
+mod refusal;
 mod show;
 mod values;
 mod words;

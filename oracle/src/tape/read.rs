@@ -1,28 +1,14 @@
 //! The operations P, F, S, E and T.
 
 use crate::line::Call;
+use crate::refusal::refusal;
 use crate::show::{Answer, Bytes, Entry, List, State};
 use crate::{FILL, SKIP};
-use cdp_types::{CDPParser, FieldOrService, ParserError, ServiceEntry, ServiceInfo, WriterError};
+use cdp_types::{CDPParser, FieldOrService, ServiceEntry, ServiceInfo, WriterError};
 use std::fmt::Write;
 
 /// The port asks for this much, whatever the packet holds; the Rust lends its own.
 const LEAST_ROOM: usize = 95;
-
-fn refusal(error: ParserError) -> Answer {
-    match error {
-        ParserError::LengthMismatch { expected, actual } => Answer(1, expected, actual),
-        ParserError::WrongMagic => Answer(2, 0, 0),
-        ParserError::UnknownFramerate => Answer(3, 0, 0),
-        ParserError::InvalidFixedBits => Answer(4, 0, 0),
-        ParserError::ChecksumFailed => Answer(5, 0, 0),
-        ParserError::SequenceCountMismatch => Answer(6, 0, 0),
-        ParserError::ServiceNumberMismatch => Answer(7, 0, 0),
-        ParserError::InvalidServiceNumber => Answer(8, 0, 0),
-        ParserError::ServiceFlagsMismatched => Answer(9, 0, 0),
-        ParserError::Cea608AfterCea708 => unreachable!("the copy-out never fails"),
-    }
-}
 
 pub fn packet(reader: &mut CDPParser, room: usize, packet: &[u8]) -> String {
     if room < LEAST_ROOM {

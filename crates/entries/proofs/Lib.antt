@@ -1,0 +1,4 @@
+pub mod Cases
+pub mod EntryBack
+pub mod EntryReads
+pub mod EntryWrites

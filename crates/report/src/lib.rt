@@ -1,0 +1,4 @@
+// What the sweeps share.
+mod digest;
+
+pub use digest::feed;

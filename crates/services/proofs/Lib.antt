@@ -1,0 +1,5 @@
+pub mod Cases
+pub mod SectionBack
+pub mod SectionReads
+pub mod SectionWrites
+pub mod Writes

@@ -1,0 +1,60 @@
+-- `services::ServiceInfo::write_into`: count and entries, room, then the section.
+-- Assumes nothing.
+use native.Mathlib.Omega.{arith}
+use mathlib.Core.Path.{_∙_, sym}
+use borrow.Author.Tests.{not-true, not-false}
+use Rattle.services.proofs.SectionWrites.{value-refused, value-done, value-length, section-no-room, section-fits}
+use borrow.Author.Needs.{needs}
+use Rattle.services.proofs.list.ServiceInfo.write_into.Statement.{statement}
+use Rattle.services.proofs.list.ServiceInfo.write_into.Tie as tie
+
+writable-requires : tie.Need-writable-requires
+writable-requires c κs = search needs
+
+is-done-requires : tie.Need-is-done-requires
+is-done-requires c κs = search needs
+
+returns : tie.Need-returns
+returns c = rw (c .before .before .writable .ensures) (value-refused _ _ (rw (c .before .before .writable .ensures) at (sym (c .before .is-done .ensures) ∙ not-true _ (c .if1 .taken))))
+
+buffer-too-short-requires : tie.Need-buffer-too-short-requires
+buffer-too-short-requires c κs = search needs
+
+returns-2 : tie.Need-returns-2
+returns-2 c =
+    let s = c .before .before in
+    let e = s .before .before .writable .ensures in
+    let ok = rw e at (sym (s .before .is-done .ensures) ∙ not-false _ (s .if1 .left)) in
+    let size = e ∙ value-length _ ok in
+    rw (c .buffer-too-short .ensures, size) (section-no-room _ _ (value-done _ ok .0) (value-done _ ok .1) (rw size at (c .before .if2 .taken)))
+
+put-section-requires : tie.Need-put-section-requires
+put-section-requires c κs =
+    let s = c .before .before in
+    let e = s .before .before .writable .ensures in
+    let ok = rw e at (sym (s .before .is-done .ensures) ∙ not-false _ (s .if1 .left)) in
+    (value-done _ ok .0, rw (e ∙ value-length _ ok) at (c .before .if2 .left))
+
+same-length : tie.Need-same-length
+same-length c = search needs
+
+returns-3 : tie.Need-returns-3
+returns-3 c =
+    let s = c .before .before .before .before .before in
+    let e = s .before .before .writable .ensures in
+    let ok = rw e at (sym (s .before .is-done .ensures) ∙ not-false _ (s .if1 .left)) in
+    let size = e ∙ value-length _ ok in
+    rw (size, c .before .before .put-section .ensures) (section-fits _ _ (value-done _ ok .0) (value-done _ ok .1) (rw size at (c .before .before .before .before .if2 .left)))
+
+pub write-into-spec : {M : Type 1} → statement M
+write-into-spec =
+    tie.close
+    (tie.spec
+    writable-requires
+    is-done-requires
+    returns
+    buffer-too-short-requires
+    returns-2
+    put-section-requires
+    same-length
+    returns-3)

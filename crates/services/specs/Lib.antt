@@ -1,0 +1,5 @@
+pub mod ServiceList
+pub mod Section
+pub mod Writing
+pub mod RoundTrip
+pub mod Cases

@@ -1,0 +1,65 @@
+-- The list: three flags, fifteen places, a count; and the calls on it.
+use mathlib.Core.Bool.{Bool, true, false, cond}
+use mathlib.Core.List.{List, [], _∷_, _++_}
+use Prim.Native.Nat.{ℕ, _+_, _-_, _*_}
+use lib.Dec.{leb, ltb}
+use lib.ListN.{length, set, replicate}
+use Rattle.values.specs.Answer.{WouldOverflow, done}
+use Rattle.values.specs.Check.{Check, check, verdict, answer, ifClear}
+use Rattle.entries.specs.Service.{filler}
+use Rattle.entries.specs.declared.entry.ServiceEntry.{ServiceEntry}
+use Rattle.services.specs.declared.list.ServiceInfo.{ServiceInfo}
+use Rattle.services.specs.declared.list.ServiceInfoAdded.{ServiceInfoAdded}
+use Rattle.values.specs.declared.answer.Answer.{Answer}
+
+-- how many entries a list has places for
+abbrev pub places : ℕ
+places = 15
+
+abbrev pub list : Bool → Bool → Bool → List ServiceEntry → ℕ → ServiceInfo
+list start change complete services count =
+    record { start = start; change = change; complete = complete; services = services; count = count }
+
+-- the entries in the first places, the filler in the others
+unfoldable pub filled : List ServiceEntry → List ServiceEntry
+filled entries = entries ++ replicate (places - length entries) filler
+
+abbrev pub fillers : List ServiceEntry
+fillers = replicate places filler
+
+abbrev pub empty : ServiceInfo
+empty = list false false false fillers 0
+
+abbrev pub setStart : ServiceInfo → Bool → ServiceInfo
+setStart l on = list on (l .change) (l .complete) (l .services) (l .count)
+
+-- true sets start too; false leaves it
+abbrev pub setChange : ServiceInfo → Bool → ServiceInfo
+setChange l on = list (cond on true (l .start)) on (l .complete) (l .services) (l .count)
+
+abbrev pub setComplete : ServiceInfo → Bool → ServiceInfo
+setComplete l on = list (l .start) (l .change) on (l .services) (l .count)
+
+-- the filler in all places; the flags stay
+abbrev pub clear : ServiceInfo → ServiceInfo
+clear l = list (l .start) (l .change) (l .complete) fillers 0
+
+-- any entry goes behind the others; a list with no free place is given back
+abbrev pub added : ServiceInfo → ServiceEntry → ServiceInfoAdded
+added l e =
+    let v = verdict (check (ltb (l .count) places) WouldOverflow ∷ []) in
+    record {
+      answer = answer v 0;
+      list = ifClear v (list (l .start) (l .change) (l .complete) (set (l .services) (l .count) e) (l .count + 1)) l;
+    }
+
+-- the length of a section with so many entries
+abbrev pub sectionLength : ℕ → ℕ
+sectionLength count = 2 + 7 * count
+
+-- a count over 15 is no list's
+abbrev pub countCheck : ServiceInfo → Check
+countCheck l = check (leb (l .count) places) WouldOverflow
+
+abbrev pub byteLen : ServiceInfo → Answer
+byteLen l = answer (verdict (countCheck l ∷ [])) (sectionLength (l .count))

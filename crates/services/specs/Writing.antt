@@ -1,0 +1,56 @@
+-- Writing a section.
+use mathlib.Core.Bool.{Bool, true, _&&_}
+use mathlib.Core.List.{List, [], _∷_, _++_}
+use Prim.Native.Nat.{ℕ, zero, suc, _+_}
+use lib.ListN.{getD}
+use Rattle.values.specs.Check.{Check, verdict, answer}
+use Rattle.values.specs.Mask.{flag}
+use Rattle.values.specs.Packet.{servicesId}
+use Rattle.entries.specs.Service.{filler}
+use Rattle.entries.specs.Writing.{Written, written, writable, entryCheck, roomCheck, sevenBytes}
+use Rattle.services.specs.ServiceList.{countCheck, sectionLength}
+use Rattle.services.specs.declared.list.ServiceInfo.{ServiceInfo}
+use Rattle.entries.specs.declared.entry.ServiceEntry.{ServiceEntry}
+use Rattle.values.specs.declared.answer.Answer.{Answer}
+
+-- the checks, and the bytes, of entries one after the other
+abbrev pub entryWriteChecks : List ServiceEntry → List Check
+entryWriteChecks [] = []
+entryWriteChecks (e ∷ es) = entryCheck e ∷ entryWriteChecks es
+
+abbrev pub entryListBytes : List ServiceEntry → List ℕ
+entryListBytes [] = []
+entryListBytes (e ∷ es) = sevenBytes e ++ entryListBytes es
+
+-- so many places from one on
+abbrev pub placesFrom : List ServiceEntry → ℕ → ℕ → List ServiceEntry
+placesFrom services k zero = []
+placesFrom services k (suc n) = getD services k filler ∷ placesFrom services (k + 1) n
+
+-- the entries that the list counts; places past the count are unread
+abbrev pub counted : ServiceInfo → List ServiceEntry
+counted l = placesFrom (l .services) 0 (l .count)
+
+-- byte 1: 80, then 40 start, 20 change, 10 complete, and the count
+abbrev pub sectionByte : ServiceInfo → ℕ
+sectionByte l = 0x80 + flag (l .start) 0x40 + flag (l .change) 0x20 + flag (l .complete) 0x10 + l .count
+
+unfoldable pub sectionBytes : ServiceInfo → List ℕ
+sectionBytes l = servicesId ∷ sectionByte l ∷ entryListBytes (counted l)
+
+-- count, then entries: whether a list can be written at all
+abbrev pub valueChecks : ServiceInfo → List Check
+valueChecks l = countCheck l ∷ entryWriteChecks (counted l)
+
+unfoldable pub valueAnswer : ServiceInfo → Answer
+valueAnswer l = answer (verdict (valueChecks l)) (sectionLength (l .count))
+
+-- a section: count, entries, room
+unfoldable pub sectionWritten : ServiceInfo → List ℕ → Written
+sectionWritten l buffer =
+    written (verdict (valueChecks l ++ roomCheck (sectionLength (l .count)) buffer ∷ [])) (sectionBytes l) buffer
+
+-- the entries' checks as one test
+unfoldable pub allWritable : List ServiceEntry → Bool
+allWritable [] = true
+allWritable (e ∷ es) = writable (e .service) && allWritable es

@@ -1,0 +1,115 @@
+// What a reader answers, fed to a digest.
+use crate::good;
+use entries::FieldOrService;
+use entries::ServiceEntry;
+use report::feed;
+use services::ServiceInfo;
+
+// An entry: of the answer only its number, since the two others are 0.
+pub fn entry(digest: u64, kind: u64, last_two: u64) -> u64 {
+    let read = ServiceEntry::parse([
+        0x65,
+        0x6E,
+        0x67,
+        (kind % 256) as u8,
+        (last_two / 256 % 256) as u8,
+        (last_two % 256) as u8,
+    ]);
+    let fed = feed(digest, read.answer.number);
+    if !read.answer.is_done() {
+        return fed;
+    }
+    let entry = read.entry;
+    entry_fed(fed, entry)
+}
+
+// A section of one entry.
+pub fn one(digest: u64, header: u64, kind: u64) -> u64 {
+    let bytes = [
+        0x73u8,
+        0x81,
+        (header % 256) as u8,
+        0x65,
+        0x6E,
+        0x67,
+        (kind % 256) as u8,
+        0x3F,
+        0xFF,
+    ];
+    section(digest, &bytes)
+}
+
+// The good section of a count in another size and with another byte at a place.
+pub fn changed(digest: u64, count: u64, size: u64, place: u64, byte: u64) -> u64 {
+    let mut bytes = [0u8; 128];
+    let at = (place % 128) as usize;
+    fill(&mut bytes, count);
+    bytes[at] = (byte % 256) as u8;
+    cut(digest, bytes, size)
+}
+
+// The good section of a count, zeros behind it.
+fn fill(bytes: &mut [u8], count: u64) {
+    for at in 0..bytes.len() {
+        bytes[at] = good::byte(count, at as u64);
+    }
+}
+
+// The first bytes of an array, which comes by value so that a part of it can be lent.
+fn cut(digest: u64, bytes: [u8; 128], size: u64) -> u64 {
+    let end = (size % 128) as usize;
+    section(digest, &bytes[..end])
+}
+
+// The answer, and the list where there is one.
+fn section(digest: u64, bytes: &[u8]) -> u64 {
+    let read = ServiceInfo::parse(bytes);
+    let number = feed(digest, read.answer.number);
+    let first = feed(number, (read.answer.first % 256) as u8);
+    let second = feed(first, (read.answer.second % 256) as u8);
+    if !read.answer.is_done() {
+        return second;
+    }
+    let list = read.list;
+    list_fed(second, list)
+}
+
+fn list_fed(digest: u64, list: ServiceInfo) -> u64 {
+    let start = feed(digest, bit(list.start));
+    let change = feed(start, bit(list.change));
+    let complete = feed(change, bit(list.complete));
+    let count = feed(complete, (list.count % 256) as u8);
+    let services = list.services;
+    entries_fed(count, services, list.count)
+}
+
+// A count over 15 ends at the last place.
+fn entries_fed(first: u64, services: [ServiceEntry; 15], count: usize) -> u64 {
+    let mut digest = first;
+    for k in 0..15 {
+        if k < count {
+            let entry = services[k];
+            digest = entry_fed(digest, entry);
+        }
+    }
+    digest
+}
+
+// The language, then 1 and a digital service, or 0 and a field.
+fn entry_fed(digest: u64, entry: ServiceEntry) -> u64 {
+    let language = entry.language;
+    let service = entry.service;
+    let fed = feed(feed(feed(digest, language[0]), language[1]), language[2]);
+    match service {
+        FieldOrService::Field(first) => feed(feed(fed, 0), if first { 1 } else { 2 }),
+        FieldOrService::Service(digital) => {
+            let number = feed(feed(fed, 1), digital.service);
+            let easy = feed(number, bit(digital.easy_reader));
+            feed(easy, bit(digital.wide_aspect_ratio))
+        }
+    }
+}
+
+fn bit(on: bool) -> u8 {
+    if on { 1 } else { 0 }
+}
