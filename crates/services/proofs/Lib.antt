@@ -2,4 +2,4 @@ pub mod Cases
 pub mod SectionBack
 pub mod SectionReads
 pub mod SectionWrites
-pub mod Writes
+pub mod Writable

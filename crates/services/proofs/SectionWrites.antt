@@ -21,7 +21,7 @@ use Rattle.services.specs.ServiceList.{sectionLength}
 use Rattle.entries.specs.Writing.{roomCheck, sevenBytes, written}
 use Rattle.services.specs.Writing.{allWritable, counted, entryListBytes, placesFrom, sectionByte, sectionBytes, sectionWritten, valueAnswer, valueChecks}
 use Rattle.entries.proofs.EntryWrites.{Leaves, done-means}
-use Rattle.services.proofs.Writes.{all-writable, entries-verdict, same-place}
+use Rattle.services.proofs.Writable.{all-writable, entries-verdict, same-place}
 use Rattle.entries.specs.declared.entry.ServiceEntry.{ServiceEntry}
 use Rattle.services.specs.declared.list.ServiceInfo.{ServiceInfo}
 

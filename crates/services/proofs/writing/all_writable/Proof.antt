@@ -6,7 +6,7 @@ use native.Mathlib.Omega.{arith}
 use borrow.Author.Needs.{needs}
 use borrow.Author.Tests.{not-true, not-false}
 use Rattle.services.specs.Writing.{allWritable, placesFrom}
-use Rattle.services.proofs.Writes.{ahead, ahead-first, ahead-stops, ahead-goes-on, ahead-ends}
+use Rattle.services.proofs.Writable.{ahead, ahead-first, ahead-stops, ahead-goes-on, ahead-ends}
 use Rattle.services.proofs.writing.all_writable.Statement.{statement}
 use Rattle.services.proofs.writing.all_writable.Tie as tie
 

@@ -3,7 +3,7 @@
 use mathlib.Core.Path.{_∙_, sym}
 use native.Mathlib.Omega.{arith}
 use borrow.Author.Tests.{not-true, not-false}
-use Rattle.services.proofs.Writes.{count-over, some-unwritable, all-writable}
+use Rattle.services.proofs.Writable.{count-over, some-unwritable, all-writable}
 use borrow.Author.Needs.{needs}
 use Rattle.services.proofs.list.ServiceInfo.writable.Statement.{statement}
 use Rattle.services.proofs.list.ServiceInfo.writable.Tie as tie
