@@ -1,15 +1,15 @@
 -- Reading a section, test by test: its frame, the entry at a place, and the entries one after the other.
 -- Assumes nothing.
 use mathlib.Core.Path.{_≡_, _∙_, sym, refl, ap}
-use mathlib.Core.Bool.{Bool, true, false, cond, not, _||_, true≢false, false≢true}
-use mathlib.Core.List.{List, [], _∷_, _++_, append-assoc}
+use mathlib.Core.Bool.{Bool, true, false, not, _||_, true≢false, false≢true}
+use mathlib.Core.List.{List, [], _∷_, _++_}
 use Prim.Native.Nat.{ℕ, zero, suc, _+_, _-_, _*_, _/_, _%_, _≤_, _<_}
 use native.Mathlib.Nat.{sub-zero}
 use native.Mathlib.Numerals.{add-one}
 use native.Mathlib.Omega.{arith}
 use borrow.Author.Tests.{eq-eqb, ne-eqb, eqb-true, le-leb, lt-leb}
 use lib.Dec.{eqb}
-use lib.ListN.{length, set, replicate, length-append, length-replicate}
+use lib.ListN.{length, set, replicate, length-append}
 use lib.Seq.{append-snoc, set-append-seam}
 use Rattle.values.proofs.Verdicts.{andThen, verdict-append, refused-not-done}
 use Rattle.values.specs.Answer.{LengthMismatch, WrongMagic, InvalidFixedBits, ServiceNumberMismatch, done, refused}
@@ -157,10 +157,6 @@ module _ (d : List ℕ) (k : ℕ) where
   pub first-none : fillers ≡ firstRead d 0
   unfolding firstRead filled
   first-none = refl
-
-  pub length-first : k ≤ 15 → length (firstRead d k) ≡ 15
-  unfolding firstRead filled
-  length-first h = simp (length-append, entries-length, length-replicate) (omega arith)
 
   pub first-more : k < 15 → eqb (readAt d (2 + 7 * k) .answer .number) 0 ≡ true
       → set (firstRead d k) k (readAt d (2 + 7 * k) .entry) ≡ firstRead d (k + 1)

@@ -4,7 +4,7 @@ use mathlib.Core.List.{List, [], _∷_, _++_}
 use Prim.Native.Nat.{ℕ, _+_, _-_, _*_}
 use lib.Dec.{leb, ltb}
 use lib.ListN.{length, set, replicate}
-use Rattle.values.specs.Answer.{WouldOverflow, done}
+use Rattle.values.specs.Answer.{WouldOverflow}
 use Rattle.values.specs.Check.{Check, check, verdict, answer, ifClear}
 use Rattle.entries.specs.Service.{filler}
 use Rattle.entries.specs.declared.entry.ServiceEntry.{ServiceEntry}

@@ -1,6 +1,5 @@
 -- `services::ServiceInfo::write_into`: count and entries, room, then the section.
 -- Assumes nothing.
-use native.Mathlib.Omega.{arith}
 use mathlib.Core.Path.{_∙_, sym}
 use borrow.Author.Tests.{not-true, not-false}
 use Rattle.services.proofs.SectionWrites.{value-refused, value-done, value-length, section-no-room, section-fits}
