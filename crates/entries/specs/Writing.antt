@@ -58,7 +58,7 @@ entryBytes e =
 unfoldable pub entryWritten : ServiceEntry → List ℕ → Written
 entryWritten e buffer = written (verdict (entryCheck e ∷ roomCheck 6 buffer ∷ [])) (entryBytes e) buffer
 
--- an entry's header byte: 80 + number, 80 for field 1, 81 for field 2
+-- an entry's header byte: 80 + number, with a remainder as above; 80 for field 1, 81 for field 2
 abbrev pub headerByte : FieldOrService → ℕ
 headerByte (Field first) = cond first 0x80 0x81
 headerByte (Service digital) = 0x80 + digital .service % 128

@@ -1,7 +1,7 @@
 -- Reading a section, test by test: its frame, the entry at a place, and the entries one after the other.
 -- Assumes nothing.
 use mathlib.Core.Path.{_≡_, _∙_, sym, refl, ap}
-use mathlib.Core.Bool.{Bool, true, false, not, _||_, true≢false, false≢true}
+use mathlib.Core.Bool.{Bool, true, false, not, _||_, true≢false}
 use mathlib.Core.List.{List, [], _∷_, _++_}
 use Prim.Native.Nat.{ℕ, zero, suc, _+_, _-_, _*_, _/_, _%_, _≤_, _<_}
 use native.Mathlib.Nat.{sub-zero}
@@ -11,7 +11,7 @@ use borrow.Author.Tests.{eq-eqb, ne-eqb, eqb-true, le-leb, lt-leb}
 use lib.Dec.{eqb}
 use lib.ListN.{length, set, replicate, length-append}
 use lib.Seq.{append-snoc, set-append-seam}
-use Rattle.values.proofs.Verdicts.{andThen, verdict-append, refused-not-done}
+use Rattle.values.proofs.Verdicts.{andThen, verdict-append, done-clear, refused-stays}
 use Rattle.values.specs.Answer.{LengthMismatch, WrongMagic, InvalidFixedBits, ServiceNumberMismatch, done, refused}
 use Rattle.values.specs.Bytes.{byte}
 use Rattle.values.specs.Check.{Check, Verdict, check, clear, broken, verdict, answer, ifClear}
@@ -25,25 +25,9 @@ use Rattle.entries.specs.declared.entry.ServiceEntryRead.{ServiceEntryRead}
 use Rattle.services.specs.declared.list.ServiceInfo.{ServiceInfo}
 use Rattle.services.specs.declared.section.ServiceInfoRead.{ServiceInfoRead}
 
--- what an entry's verdict gives, and with one more check behind it
+-- what an entry's verdict gives
 abbrev shown : Verdict → ServiceEntry → ServiceEntryRead
 shown v e = record { answer = answer v 0; entry = ifClear v e filler }
-
-still-refused : (v w : Verdict) (e : ServiceEntry) → eqb (answer v 0 .number) 0 ≡ false → shown v e ≡ shown (andThen v w) e
-still-refused clear w e h = absurd (true≢false h)
-still-refused (broken why) w e h = refl
-
-then-so : (v w : Verdict) (e : ServiceEntry) → eqb (answer v 0 .number) 0 ≡ true → shown w e ≡ shown (andThen v w) e
-then-so clear w e h = refl
-then-so (broken why) w e h = absurd (false≢true (sym (refused-not-done why) ∙ h))
-
-all-clear : (v : Verdict) (e : ServiceEntry) → eqb (answer v 0 .number) 0 ≡ true → shown v e ≡ shown clear e
-all-clear clear e h = refl
-all-clear (broken why) e h = absurd (false≢true (sym (refused-not-done why) ∙ h))
-
-goes-on : (v w : Verdict) → eqb (answer v 0 .number) 0 ≡ true → andThen v w ≡ w
-goes-on clear w h = refl
-goes-on (broken why) w h = absurd (false≢true (sym (refused-not-done why) ∙ h))
 
 implied : (a b : Bool) → (a ≡ true → b ≡ true) → (not a || b) ≡ true
 implied true b h = h refl
@@ -94,16 +78,24 @@ module _ (d : List ℕ) (at : ℕ) where
       -- an entry that is refused by its own rules
       pub entry-refused : eqb (entryRead (sixBehind d at) .answer .number) 0 ≡ false → entryRead (sixBehind d at) ≡ readAt d at
       unfolding entryRead
-      entry-refused h = still-refused (verdict (entryChecks (sixBehind d at))) (verdict (numberCheck d at ∷ [])) (entryOf (sixBehind d at)) h ∙ read-as-parts
+      entry-refused h =
+          ap (λ (v : Verdict). shown v (entryOf (sixBehind d at)))
+          (sym (refused-stays (verdict (entryChecks (sixBehind d at))) (verdict (numberCheck d at ∷ [])) 0 h))
+          ∙ read-as-parts
 
       module _ (read : eqb (entryRead (sixBehind d at) .answer .number) 0 ≡ true) where
+        own-clear : verdict (entryChecks (sixBehind d at)) ≡ clear
+        unfolding entryRead
+        own-clear = done-clear (verdict (entryChecks (sixBehind d at))) 0 read
+
         whole : entryRead (sixBehind d at) ≡ shown clear (entryOf (sixBehind d at))
         unfolding entryRead
-        whole = all-clear (verdict (entryChecks (sixBehind d at))) (entryOf (sixBehind d at)) read
+        whole = ap (λ (v : Verdict). shown v (entryOf (sixBehind d at))) own-clear
 
         last-check : shown (verdict (numberCheck d at ∷ [])) (entryOf (sixBehind d at)) ≡ readAt d at
-        unfolding entryRead
-        last-check = then-so (verdict (entryChecks (sixBehind d at))) (verdict (numberCheck d at ∷ [])) (entryOf (sixBehind d at)) read ∙ read-as-parts
+        last-check =
+            ap (λ (v : Verdict). shown (andThen v (verdict (numberCheck d at ∷ []))) (entryOf (sixBehind d at))) (sym own-clear)
+            ∙ read-as-parts
 
         pub other-number : (namedBy (byte d at) ≡ numberOf (entryRead (sixBehind d at) .entry .service) → ⊥) → refusedEntry (refused ServiceNumberMismatch) ≡ readAt d at
         other-number h =
@@ -118,7 +110,7 @@ module _ (d : List ℕ) (at : ℕ) where
 -- a whole entry at a place is what it holds
 read-clear : (d : List ℕ) (at : ℕ) → eqb (readAt d at .answer .number) 0 ≡ true → readAt d at .entry ≡ entryOf (sixBehind d at)
 unfolding readAt
-read-clear d at h = ap (λ (r : ServiceEntryRead). r .entry) (all-clear (verdict (checksAt d at)) (entryOf (sixBehind d at)) h)
+read-clear d at h = ap (λ (v : Verdict). shown v (entryOf (sixBehind d at)) .entry) (done-clear (verdict (checksAt d at)) 0 h)
 
 -- the entries one after the other: what is read of the first k, and what is left to test
 unfoldable pub firstRead : List ℕ → ℕ → List ServiceEntry
@@ -196,12 +188,13 @@ module _ (d : List ℕ) (k count : ℕ) where
 
   pub left-goes-on : k < count → eqb (readAt d (2 + 7 * k) .answer .number) 0 ≡ true → left d k count ≡ left d (k + 1) count
   unfolding readAt
-  left-goes-on h r = left-step h ∙ goes-on (verdict (checksAt d (2 + 7 * k))) (left d (k + 1) count) r
+  left-goes-on h r = left-step h ∙ ap (λ (v : Verdict). andThen v (left d (k + 1) count)) (done-clear (verdict (checksAt d (2 + 7 * k))) 0 r)
 
 -- what a section's verdict gives
 abbrev shownList : Verdict → ServiceInfo → ServiceInfoRead
 shownList v l = record { answer = answer v 0; list = ifClear v l empty }
 
+-- a refusal, whatever is tested after it, shows the empty list
 list-refused : (v w : Verdict) (l : ServiceInfo) → eqb (answer v 0 .number) 0 ≡ false
     → refusedList (answer v 0) ≡ shownList (andThen v w) l
 list-refused clear w l h = absurd (true≢false h)

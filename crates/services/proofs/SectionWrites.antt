@@ -17,11 +17,11 @@ use Rattle.values.specs.Bytes.{over, put}
 use Rattle.values.specs.Check.{Verdict, clear, broken, verdict, answer}
 use Rattle.values.specs.Packet.{servicesId}
 use Rattle.entries.specs.Service.{filler}
-use Rattle.services.specs.ServiceList.{sectionLength}
+use Rattle.services.specs.ServiceList.{byteLen, sectionLength}
 use Rattle.entries.specs.Writing.{roomCheck, sevenBytes, written}
 use Rattle.services.specs.Writing.{allWritable, counted, entryListBytes, placesFrom, sectionByte, sectionBytes, sectionWritten, valueAnswer, valueChecks}
 use Rattle.entries.proofs.EntryWrites.{Leaves, done-means}
-use Rattle.services.proofs.Writable.{all-writable, entries-verdict, same-place}
+use Rattle.services.proofs.Writable.{entries-verdict, same-place}
 use Rattle.entries.specs.declared.entry.ServiceEntry.{ServiceEntry}
 use Rattle.services.specs.declared.list.ServiceInfo.{ServiceInfo}
 
@@ -101,12 +101,12 @@ unfolding sectionBytes
 section-length l = omega (arith, first-length (l .services) (l .count))
 
 -- what 0 of the value's tests says: the count is a list's, and every counted entry can be written
-both-hold : (count entries : Bool) (n : ℕ)
-    → eqb (answer (cond count (cond entries clear (broken NotWritable)) (broken WouldOverflow)) n .number) 0 ≡ true
+both-hold : (count entries : Bool)
+    → eqb (answer (cond count (cond entries clear (broken NotWritable)) (broken WouldOverflow)) 0 .number) 0 ≡ true
     → (count ≡ true) × (entries ≡ true)
-both-hold true true n h = (refl, refl)
-both-hold true false n h = absurd (false≢true h)
-both-hold false entries n h = absurd (false≢true h)
+both-hold true true h = (refl, refl)
+both-hold true false h = absurd (false≢true h)
+both-hold false entries h = absurd (false≢true h)
 
 value-parts : (l : ServiceInfo) → verdict (valueChecks l) ≡ cond (leb (l .count) 15) (cond (allWritable (counted l)) clear (broken NotWritable)) (broken WouldOverflow)
 value-parts l = ap (λ (v : Verdict). cond (leb (l .count) 15) v (broken WouldOverflow)) (entries-verdict (counted l))
@@ -114,19 +114,18 @@ value-parts l = ap (λ (v : Verdict). cond (leb (l .count) 15) v (broken WouldOv
 pub value-done : (l : ServiceInfo) → eqb (valueAnswer l .number) 0 ≡ true → (l .count ≤ 15) × (allWritable (counted l) ≡ true)
 unfolding valueAnswer
 value-done l h =
-    let both = both-hold (leb (l .count) 15) (allWritable (counted l)) (sectionLength (l .count)) (rw (value-parts l) at h) in
+    let both = both-hold (leb (l .count) 15) (allWritable (counted l)) (rw (value-parts l) at h) in
     (leb-true _ _ (both .0), both .1)
 
-pub value-length : (l : ServiceInfo) → eqb (valueAnswer l .number) 0 ≡ true → valueAnswer l ≡ done (sectionLength (l .count))
-value-length l h =
-    let both = value-done l h in
-    sym (all-writable l (both .0) (both .1))
+-- and that its section has a length
+pub value-length : (l : ServiceInfo) → eqb (valueAnswer l .number) 0 ≡ true → byteLen l ≡ done (sectionLength (l .count))
+value-length l h = simp (le-leb _ _ (value-done l h .0))
 
 -- a refusal by the value's tests is the writer's
-refused-so : (v w : Verdict) (n : ℕ) (bytes buffer : List ℕ) → eqb (answer v n .number) 0 ≡ false
-    → Leaves (written (andThen v w) bytes buffer) (answer v n) buffer
-refused-so clear w n bytes buffer h = absurd (true≢false h)
-refused-so (broken why) w n bytes buffer h = (refl, refl)
+refused-so : (v w : Verdict) (bytes buffer : List ℕ) → eqb (answer v 0 .number) 0 ≡ false
+    → Leaves (written (andThen v w) bytes buffer) (answer v 0) buffer
+refused-so clear w bytes buffer h = absurd (true≢false h)
+refused-so (broken why) w bytes buffer h = (refl, refl)
 
 module _ (l : ServiceInfo) (buffer : List ℕ) where
   room : Verdict
@@ -140,7 +139,7 @@ module _ (l : ServiceInfo) (buffer : List ℕ) where
 
   pub value-refused : eqb (valueAnswer l .number) 0 ≡ false → Leaves (sectionWritten l buffer) (valueAnswer l) buffer
   unfolding valueAnswer
-  value-refused h = rw (← as-parts) (refused-so (verdict (valueChecks l)) room (sectionLength (l .count)) (sectionBytes l) buffer h)
+  value-refused h = rw (← as-parts) (refused-so (verdict (valueChecks l)) room (sectionBytes l) buffer h)
 
   module _ (count : l .count ≤ 15) (entries : allWritable (counted l) ≡ true) where
     value-clear : verdict (valueChecks l) ≡ clear

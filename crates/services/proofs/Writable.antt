@@ -11,7 +11,6 @@ use lib.ListN.{length, getD}
 use Rattle.values.specs.Answer.{WouldOverflow, NotWritable, done, refused}
 use Rattle.values.specs.Check.{Verdict, clear, broken, verdict}
 use Rattle.entries.specs.Service.{filler}
-use Rattle.services.specs.ServiceList.{sectionLength}
 use Rattle.entries.specs.Writing.{writable}
 use Rattle.services.specs.Writing.{allWritable, entryWriteChecks, placesFrom, counted, valueAnswer}
 use Rattle.entries.specs.declared.entry.ServiceEntry.{ServiceEntry}
@@ -72,6 +71,6 @@ module _ (l : ServiceInfo) where
   unfolding valueAnswer
   some-unwritable h w = simp (le-leb _ _ h, entries-verdict, w)
 
-  pub all-writable : l .count ≤ 15 → allWritable (counted l) ≡ true → done (sectionLength (l .count)) ≡ valueAnswer l
+  pub all-writable : l .count ≤ 15 → allWritable (counted l) ≡ true → done 0 ≡ valueAnswer l
   unfolding valueAnswer
   all-writable h w = simp (le-leb _ _ h, entries-verdict, w)

@@ -43,7 +43,7 @@ abbrev pub valueChecks : ServiceInfo → List Check
 valueChecks l = countCheck l ∷ entryWriteChecks (counted l)
 
 unfoldable pub valueAnswer : ServiceInfo → Answer
-valueAnswer l = answer (verdict (valueChecks l)) (sectionLength (l .count))
+valueAnswer l = answer (verdict (valueChecks l)) 0
 
 -- a section: count, entries, room
 unfoldable pub sectionWritten : ServiceInfo → List ℕ → Written

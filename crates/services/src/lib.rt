@@ -3,6 +3,10 @@ mod list;
 mod section;
 mod writing;
 
+pub use entries::DigitalServiceEntry;
+pub use entries::FieldOrService;
+pub use entries::ServiceEntry;
+pub use entries::ServiceEntryRead;
 pub use list::ServiceInfo;
 pub use list::ServiceInfoAdded;
 pub use section::ServiceInfoRead;

@@ -1,6 +1,6 @@
 // Rules S1 to S8: a section, read.
 ghost use mathlib.Core.Path.{_≡_};
-ghost use Prim.Native.Nat.{_+_, _*_, _≤_, _<_};
+ghost use Prim.Native.Nat.{_+_, _≤_};
 ghost use lib.ListN.{length};
 ghost use Rattle.services.specs.Section as Section;
 ghost use Rattle.entries.specs.Service as Service;

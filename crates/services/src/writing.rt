@@ -12,7 +12,7 @@ use values::flag;
 use values::put;
 
 impl ServiceInfo {
-    // Whether the list can be written, its count and then its entries; 0 comes with the section's length.
+    // Whether the list can be written: its count, then its entries.
     pub fn writable(self) -> Answer
         ensures { λ r. ⌜ r ≡ Writing.valueAnswer self ⌝ }
     {
@@ -24,7 +24,7 @@ impl ServiceInfo {
         if !all_writable(services, count) {
             return Answer::NOT_WRITABLE;
         }
-        Answer::done(2 + 7 * count)
+        Answer::done(0)
     }
 
     // Writes the section at the start of the lent bytes.
@@ -36,13 +36,14 @@ impl ServiceInfo {
         if !checked.is_done() {
             return checked;
         }
-        let needed = checked.first;
+        let length = self.byte_len();
+        let needed = length.first;
         let room = out.len();
         if room < needed {
             return Answer::buffer_too_short(needed, room);
         }
         self.put_section(out);
-        checked
+        length
     }
 
     // The two bytes of the section's own, then the entries.

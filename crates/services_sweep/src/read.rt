@@ -1,8 +1,8 @@
 // What a reader answers, fed to a digest.
 use crate::good;
-use entries::FieldOrService;
-use entries::ServiceEntry;
 use report::feed;
+use services::FieldOrService;
+use services::ServiceEntry;
 use services::ServiceInfo;
 
 // An entry: of the answer only its number, since the two others are 0.

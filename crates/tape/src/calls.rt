@@ -5,7 +5,7 @@ use crate::print::word;
 use crate::show;
 use crate::words;
 use crate::words::NOWHERE;
-use entries::ServiceEntry;
+use services::ServiceEntry;
 use services::ServiceInfo;
 use services::ServiceInfoAdded;
 use values::Answer;

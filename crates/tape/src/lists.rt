@@ -4,9 +4,9 @@ use crate::words::byte;
 use crate::words::flag;
 use crate::words::mark;
 use crate::words::number;
-use entries::DigitalServiceEntry;
-use entries::FieldOrService;
-use entries::ServiceEntry;
+use services::DigitalServiceEntry;
+use services::FieldOrService;
+use services::ServiceEntry;
 use services::ServiceInfo;
 
 pub struct EntryWord {

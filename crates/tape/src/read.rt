@@ -3,7 +3,7 @@ use crate::operation::malformed;
 use crate::print::word;
 use crate::show;
 use crate::words;
-use entries::ServiceEntry;
+use services::ServiceEntry;
 use services::ServiceInfo;
 
 pub fn section(line: &[u8], given: &mut [u8], out: &mut [u8], at: usize) -> usize {

@@ -4,9 +4,9 @@ use crate::print::byte;
 use crate::print::decimal;
 use crate::print::hex;
 use crate::print::word;
-use entries::DigitalServiceEntry;
-use entries::FieldOrService;
-use entries::ServiceEntry;
+use services::DigitalServiceEntry;
+use services::FieldOrService;
+use services::ServiceEntry;
 use services::ServiceInfo;
 use values::Answer;
 

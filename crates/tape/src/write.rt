@@ -5,7 +5,7 @@ use crate::print;
 use crate::print::word;
 use crate::show;
 use crate::words;
-use entries::ServiceEntry;
+use services::ServiceEntry;
 use services::ServiceInfo;
 use values::Answer;
 

@@ -1,7 +1,7 @@
 -- Verdicts: of two lists of checks one after the other, and what an answer says of its verdict.
 -- Assumes nothing.
-use mathlib.Core.Path.{_≡_, refl}
-use mathlib.Core.Bool.{Bool, true, false, cond}
+use mathlib.Core.Path.{_≡_, _∙_, sym, refl}
+use mathlib.Core.Bool.{Bool, true, false, cond, true≢false, false≢true}
 use mathlib.Core.List.{List, [], _∷_, _++_}
 use Prim.Native.Nat.{ℕ}
 use lib.Dec.{eqb}
@@ -41,3 +41,12 @@ refused-not-done Table.WrongCaptionRun = refl
 pub done-is-clear : (v : Verdict) (length : ℕ) → eqb (answer v length .number) 0 ≡ ifClear v true false
 done-is-clear clear length = refl
 done-is-clear (broken why) length = refused-not-done why
+
+-- so an answer 0 comes of a clear verdict, and any other of one that no later check changes
+pub done-clear : (v : Verdict) (length : ℕ) → eqb (answer v length .number) 0 ≡ true → v ≡ clear
+done-clear clear length h = refl
+done-clear (broken why) length h = absurd (false≢true (sym (refused-not-done why) ∙ h))
+
+pub refused-stays : (v w : Verdict) (length : ℕ) → eqb (answer v length .number) 0 ≡ false → andThen v w ≡ v
+refused-stays clear w length h = absurd (true≢false h)
+refused-stays (broken why) w length h = refl

@@ -1,6 +1,7 @@
 -- `services::section::entry_at` is rules S5 to S8: each return is where a test is the first that fails, or where none does.
 -- Assumes nothing.
 use mathlib.Core.Path.{_∙_, sym}
+use native.Mathlib.Omega.{arith}
 use borrow.Author.Tests.{not-true, not-false}
 use Rattle.services.proofs.SectionReads.{header-no-80, header-no-20, entry-refused, other-number, same-number}
 use borrow.Author.Needs.{needs}
@@ -20,7 +21,7 @@ refused-requires-2 : tie.Need-refused-requires-2
 refused-requires-2 c κs = search needs
 
 returns-2 : tie.Need-returns-2
-returns-2 c = c .refused2 .ensures ∙ header-no-20 _ _ (c .before .before .if1 .left) (c .before .if2 .taken)
+returns-2 c = c .refused2 .ensures ∙ header-no-20 _ _ (c .before .before .if1 .left) (omega arith)
 
 six-behind-requires : tie.Need-six-behind-requires
 six-behind-requires c κs = search needs

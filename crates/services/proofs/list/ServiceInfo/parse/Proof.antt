@@ -53,7 +53,7 @@ returns-4 : tie.Need-returns-4
 returns-4 c =
     let s = c .before .before .before in
     c .refused4 .ensures
-    ∙ rw (c .before .length-mismatch2 .ensures) (other-size _ (omega arith) (s .before .before .if2 .left) (s .if3 .left) (c .before .before .if4 .taken))
+    ∙ rw (c .before .length-mismatch2 .ensures) (other-size _ (omega arith) (s .before .before .if2 .left) (s .if3 .left) (λ h. omega arith))
 
 entries-requires : tie.Need-entries-requires
 entries-requires c κs = search needs

@@ -17,12 +17,6 @@ all-writable-requires c κs = search needs
 returns-2 : tie.Need-returns-2
 returns-2 c = some-unwritable _ (omega arith) (sym (c .before .all-writable .ensures) ∙ not-true _ (c .if2 .taken))
 
-mul-done : tie.Need-mul-done
-mul-done c = search needs
-
-add-done : tie.Need-add-done
-add-done c = search needs
-
 done-requires : tie.Need-done-requires
 done-requires c κs = search needs
 
@@ -32,4 +26,4 @@ returns-3 c = rw (c .done .ensures) (all-writable _ (omega arith) (sym (c .befor
 pub writable-spec : {M : Type 1} → statement M
 writable-spec =
     tie.close
-    (tie.spec returns all-writable-requires returns-2 mul-done add-done done-requires returns-3)
+    (tie.spec returns all-writable-requires returns-2 done-requires returns-3)
