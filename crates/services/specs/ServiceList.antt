@@ -8,6 +8,7 @@ use Rattle.values.specs.Answer.{WouldOverflow}
 use Rattle.values.specs.Check.{Check, check, verdict, answer, ifClear}
 use Rattle.entries.specs.Service.{filler}
 use Rattle.entries.specs.declared.entry.ServiceEntry.{ServiceEntry}
+use Rattle.services.specs.declared.list.MaybeServiceInfo.{MaybeServiceInfo}
 use Rattle.services.specs.declared.list.ServiceInfo.{ServiceInfo}
 use Rattle.services.specs.declared.list.ServiceInfoAdded.{ServiceInfoAdded}
 use Rattle.values.specs.declared.answer.Answer.{Answer}
@@ -29,6 +30,13 @@ fillers = replicate places filler
 
 abbrev pub empty : ServiceInfo
 empty = list false false false fillers 0
+
+-- a list that is there, and one that is not
+abbrev pub listPresent : ServiceInfo → MaybeServiceInfo
+listPresent l = record { present = true; «service_info» = l }
+
+abbrev pub listAbsent : MaybeServiceInfo
+listAbsent = record { present = false; «service_info» = empty }
 
 abbrev pub setStart : ServiceInfo → Bool → ServiceInfo
 setStart l on = list on (l .change) (l .complete) (l .services) (l .count)

@@ -7,6 +7,7 @@ pub use entries::DigitalServiceEntry;
 pub use entries::FieldOrService;
 pub use entries::ServiceEntry;
 pub use entries::ServiceEntryRead;
+pub use list::MaybeServiceInfo;
 pub use list::ServiceInfo;
 pub use list::ServiceInfoAdded;
 pub use section::ServiceInfoRead;

@@ -12,6 +12,24 @@ pub struct ServiceInfo {
     pub count: usize,
 }
 
+// A list that may be absent; then it is empty.
+pub struct MaybeServiceInfo {
+    pub present: bool,
+    pub service_info: ServiceInfo,
+}
+
+impl MaybeServiceInfo {
+    pub fn absent() -> Self
+        ensures { λ r. ⌜ r ≡ List.listAbsent ⌝ }
+    {
+        let service_info = ServiceInfo::default();
+        Self {
+            present: false,
+            service_info,
+        }
+    }
+}
+
 // What adding gives: beside a refusal, the list as it was.
 pub struct ServiceInfoAdded {
     pub answer: Answer,

@@ -1,8 +1,10 @@
 // Reads a tape from standard input and prints its transcript; docs/TAPE.md has the form of both. The file stdout beside
 // src/ is what the oracle prints for the tape in the file stdin.
 mod calls;
+mod lent;
 mod lists;
 mod operation;
+mod packet;
 mod print;
 mod read;
 mod show;
@@ -11,6 +13,7 @@ mod write;
 
 ghost use Prim.Native.Nat.{_≤_};
 ghost use lib.ListN.{length};
+ghost use Rattle.io.specs.Counts.{Counts};
 use crate::operation::State;
 use libc::STDIN_FILENO;
 
@@ -26,7 +29,7 @@ fn main() {
 }
 
 fn tape(part: &mut [u8], line: &mut [u8], given: &mut [u8], lent: &mut [u8], out: &mut [u8]) {
-    let s = parts(part, line, given, lent, out);
+    let s = parts(part, line, given, lent, out, State::first());
     let last = ended(line, given, lent, out, s);
     print::flush(out, last.at);
 }
@@ -38,12 +41,12 @@ fn parts(
     given: &mut [u8],
     lent: &mut [u8],
     out: &mut [u8],
+    first: State,
 ) -> State {
-    let mut s = State::FIRST;
+    let mut s = first;
     let mut turns = u64::MAX;
     while turns > 0 {
-        let got = libc::read(STDIN_FILENO, part);
-        let count = io::count(got, part);
+        let count = input(part);
         if count == 0 {
             return s;
         }
@@ -51,6 +54,14 @@ fn parts(
         turns -= 1;
     }
     s
+}
+
+// Reads the next part of the input, and gives its length: 0 behind the last.
+fn input(part: &mut [u8]) -> usize
+    ensures { λ r. ⌜ Counts r (now (part .exit)) ⌝ }
+{
+    let got = libc::read(STDIN_FILENO, part);
+    io::count(got, part)
 }
 
 // Runs every line that ends in this part of the input, and keeps what is left.
@@ -70,8 +81,8 @@ fn lines(
         if end == part.len() {
             return s;
         }
-        s = one(line, given, lent, out, s);
         at = end + 1;
+        s = one(line, given, lent, out, s);
     }
     s
 }
@@ -122,11 +133,10 @@ fn one(line: &[u8], given: &mut [u8], lent: &mut [u8], out: &mut [u8], s: State)
     next
 }
 
-fn answer(line: &[u8], given: &mut [u8], lent: &mut [u8], out: &mut [u8], mut s: State) -> State {
+fn answer(line: &[u8], given: &mut [u8], lent: &mut [u8], out: &mut [u8], s: State) -> State {
     let length = s.length;
     if line.len() < length {
-        s.at = operation::malformed(out, s.at);
-        return s;
+        return s.malformed(out);
     }
     operation::run(&line[0..length], given, lent, out, s)
 }

@@ -1,31 +1,70 @@
 // One line of a tape: its first letter says which operation it is.
 use crate::calls;
+use crate::packet;
 use crate::print;
 use crate::read;
 use crate::write;
+use reader::CDPParser;
 
-// What goes from line to line: how much there is of the line that is being read, and where in the output buffer the
-// next byte goes.
+// What goes from line to line: how much there is of the line that is being read, where in the output buffer the next
+// byte goes, and the reader.
 pub struct State {
     pub length: usize,
     pub at: usize,
+    pub parser: CDPParser,
 }
 
 impl State {
-    pub const FIRST: Self = Self { length: 0, at: 0 };
+    pub fn first() -> Self {
+        let parser = CDPParser::new();
+        Self {
+            length: 0,
+            at: 0,
+            parser,
+        }
+    }
+
+    pub fn malformed(mut self, out: &mut [u8]) -> Self {
+        self.at = malformed(out, self.at);
+        self
+    }
 }
 
-// Prints the line's answer without a newline. An operation that the port does not have yet is malformed.
-pub fn run(line: &[u8], given: &mut [u8], lent: &mut [u8], out: &mut [u8], mut s: State) -> State {
-    s.at = printed(line, given, lent, out, s.at);
+// Prints the line's answer without a newline.
+pub fn run(line: &[u8], given: &mut [u8], lent: &mut [u8], out: &mut [u8], s: State) -> State {
+    if line.len() == 0 {
+        return s.malformed(out);
+    }
+    let letter = line[0];
+    match letter {
+        b'P' => packet::read(line, given, lent, out, s),
+        b'F' => packet::flush(line, out, s),
+        _ => without_reader(line, letter, given, lent, out, s),
+    }
+}
+
+// Every other operation leaves the reader as it is.
+fn without_reader(
+    line: &[u8],
+    letter: u8,
+    given: &mut [u8],
+    lent: &mut [u8],
+    out: &mut [u8],
+    mut s: State,
+) -> State {
+    s.at = printed(line, letter, given, lent, out, s.at);
     s
 }
 
-fn printed(line: &[u8], given: &mut [u8], lent: &mut [u8], out: &mut [u8], at: usize) -> usize {
-    if line.len() == 0 {
-        return malformed(out, at);
-    }
-    let letter = line[0];
+// An operation that the port does not have yet is malformed.
+fn printed(
+    line: &[u8],
+    letter: u8,
+    given: &mut [u8],
+    lent: &mut [u8],
+    out: &mut [u8],
+    at: usize,
+) -> usize {
     match letter {
         b'S' => read::section(line, given, out, at),
         b'E' => read::entry(line, given, out, at),

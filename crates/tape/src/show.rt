@@ -1,14 +1,20 @@
-// Answers, entries and lists as a transcript spells them.
+// Answers, entries, lists and the reader as a transcript spells them.
 use crate::print::bit;
 use crate::print::byte;
 use crate::print::decimal;
 use crate::print::hex;
 use crate::print::word;
+use reader::CDPParser;
 use services::DigitalServiceEntry;
 use services::FieldOrService;
+use services::MaybeServiceInfo;
 use services::ServiceEntry;
 use services::ServiceInfo;
 use values::Answer;
+use values::Framerate;
+use values::MaybeFramerate;
+use values::MaybeTimeCode;
+use values::TimeCode;
 
 pub fn answer(out: &mut [u8], at: usize, shown: Answer) -> usize {
     let number = decimal(out, at, shown.number as u64);
@@ -74,4 +80,77 @@ fn entries(out: &mut [u8], from: usize, services: [ServiceEntry; 15], count: usi
         at = entry(out, mark, shown);
     }
     at
+}
+
+// Behind the letter of a flush, or the answer of a packet.
+pub fn parser(out: &mut [u8], at: usize, shown: CDPParser) -> usize {
+    let framerate = shown.framerate;
+    let time_code = shown.time_code;
+    let service_info = shown.service_info;
+    let rated = maybe_rate(out, at, framerate);
+    let counted = sequence(out, rated, shown.sequence);
+    let timed = maybe_time(out, counted, time_code);
+    maybe_list(out, timed, service_info)
+}
+
+fn maybe_rate(out: &mut [u8], at: usize, held: MaybeFramerate) -> usize {
+    let framerate = held.framerate;
+    let named = word(out, at, b" rate ");
+    if held.present {
+        rate(out, named, framerate)
+    } else {
+        none(out, named)
+    }
+}
+
+fn sequence(out: &mut [u8], at: usize, shown: u16) -> usize {
+    let named = word(out, at, b" seq ");
+    decimal(out, named, shown as u64)
+}
+
+fn maybe_time(out: &mut [u8], at: usize, held: MaybeTimeCode) -> usize {
+    let time_code = held.time_code;
+    let named = word(out, at, b" time ");
+    if held.present {
+        time(out, named, time_code)
+    } else {
+        none(out, named)
+    }
+}
+
+fn maybe_list(out: &mut [u8], at: usize, held: MaybeServiceInfo) -> usize {
+    let service_info = held.service_info;
+    let named = word(out, at, b" svc ");
+    if held.present {
+        list(out, named, service_info)
+    } else {
+        none(out, named)
+    }
+}
+
+fn none(out: &mut [u8], at: usize) -> usize {
+    word(out, at, b"none")
+}
+
+fn rate(out: &mut [u8], at: usize, shown: Framerate) -> usize {
+    let id = decimal(out, at, shown.id as u64);
+    let mark = byte(out, id, b'/');
+    let numer = decimal(out, mark, shown.numer as u64);
+    let mark2 = byte(out, numer, b'/');
+    decimal(out, mark2, shown.denom as u64)
+}
+
+fn time(out: &mut [u8], at: usize, shown: TimeCode) -> usize {
+    let hours = decimal(out, at, shown.hours as u64);
+    let minutes = part(out, hours, shown.minutes);
+    let seconds = part(out, minutes, shown.seconds);
+    let frames = part(out, seconds, shown.frames);
+    let field = flag(out, frames, shown.field);
+    flag(out, field, shown.drop_frame)
+}
+
+// One of the numbers behind the hours.
+fn part(out: &mut [u8], at: usize, shown: u8) -> usize {
+    let mark = byte(out, at, b':');
+    decimal(out, mark, shown as u64)
 }

@@ -1,7 +1,7 @@
 // The operations L and N: a section and an entry, written into lent bytes.
+use crate::lent;
 use crate::lists;
 use crate::operation::malformed;
-use crate::print;
 use crate::print::word;
 use crate::show;
 use crate::words;
@@ -9,14 +9,8 @@ use services::ServiceEntry;
 use services::ServiceInfo;
 use values::Answer;
 
-// What a lent buffer holds before the call, so that it shows what was written.
-const UNTOUCHED: u8 = 0xA5;
-
-// The most that a line may lend.
-const MOST: u64 = 4096;
-
 pub fn section(line: &[u8], lent: &mut [u8], out: &mut [u8], at: usize) -> usize {
-    let lends = words::number(line, words::operands(line), MOST);
+    let lends = lent::room(line);
     let room = lends.value as usize;
     let word = lists::list(line, words::mark(line, lends.next, b' '));
     let list = word.list;
@@ -30,14 +24,14 @@ pub fn section(line: &[u8], lent: &mut [u8], out: &mut [u8], at: usize) -> usize
 }
 
 fn section_into(list: ServiceInfo, lent: &mut [u8], out: &mut [u8], at: usize) -> usize {
-    fill(lent);
+    lent::fill(lent);
     let answer = list.write_into(lent);
     let letter = word(out, at, b"L ");
     written(answer, lent, out, letter)
 }
 
 pub fn entry(line: &[u8], lent: &mut [u8], out: &mut [u8], at: usize) -> usize {
-    let lends = words::number(line, words::operands(line), MOST);
+    let lends = lent::room(line);
     let room = lends.value as usize;
     let word = lists::entry(line, words::mark(line, lends.next, b' '));
     let entry = word.entry;
@@ -51,21 +45,14 @@ pub fn entry(line: &[u8], lent: &mut [u8], out: &mut [u8], at: usize) -> usize {
 }
 
 fn entry_into(entry: ServiceEntry, lent: &mut [u8], out: &mut [u8], at: usize) -> usize {
-    fill(lent);
+    lent::fill(lent);
     let answer = entry.write_into(lent);
     let letter = word(out, at, b"N ");
     written(answer, lent, out, letter)
 }
 
-fn fill(lent: &mut [u8]) {
-    for k in 0..lent.len() {
-        lent[k] = UNTOUCHED;
-    }
-}
-
 // The answer and the whole of the lent bytes.
 fn written(answer: Answer, lent: &[u8], out: &mut [u8], at: usize) -> usize {
     let answered = show::answer(out, at, answer);
-    let named = word(out, answered, b" buf ");
-    print::bytes(out, named, lent)
+    lent::show(out, answered, lent)
 }

@@ -1,6 +1,6 @@
 -- Verdicts: of two lists of checks one after the other, and what an answer says of its verdict.
 -- Assumes nothing.
-use mathlib.Core.Path.{_≡_, _∙_, sym, refl}
+use mathlib.Core.Path.{_≡_, _∙_, sym, refl, ap}
 use mathlib.Core.Bool.{Bool, true, false, cond, true≢false, false≢true}
 use mathlib.Core.List.{List, [], _∷_, _++_}
 use Prim.Native.Nat.{ℕ}
@@ -8,6 +8,7 @@ use lib.Dec.{eqb}
 use Rattle.values.specs.Answer as Table
 use Rattle.values.specs.Answer.{Refusal, refused}
 use Rattle.values.specs.Check.{Check, Verdict, clear, broken, verdict, answer, ifClear}
+use Rattle.values.specs.declared.answer.Answer.{Answer}
 
 -- the first verdict, and the second where the first is clear
 abbrev pub andThen : Verdict → Verdict → Verdict
@@ -50,3 +51,38 @@ done-clear (broken why) length h = absurd (false≢true (sym (refused-not-done w
 pub refused-stays : (v w : Verdict) (length : ℕ) → eqb (answer v length .number) 0 ≡ false → andThen v w ≡ v
 refused-stays clear w length h = absurd (true≢false h)
 refused-stays (broken why) w length h = refl
+
+-- what is shown beside a verdict: on a refusal the other value, whatever length would go with 0
+pub refused-shows : {A R : Type 0} (f : Answer → A → R) (v : Verdict) (k l : ℕ) (value other : A)
+    → eqb (answer v k .number) 0 ≡ false → f (answer v k) other ≡ f (answer v l) (ifClear v value other)
+refused-shows f clear k l value other h = absurd (true≢false h)
+refused-shows f (broken why) k l value other h = refl
+
+pub done-shows : {A R : Type 0} (f : Answer → A → R) (v : Verdict) (k l : ℕ) (value other : A)
+    → eqb (answer v k .number) 0 ≡ true → f (Table.done l) value ≡ f (answer v l) (ifClear v value other)
+done-shows f clear k l value other h = refl
+done-shows f (broken why) k l value other h = absurd (false≢true (sym (refused-not-done why) ∙ h))
+
+-- where an answer is done, the value beside it is the one that was read
+pub done-value : {A : Type 0} (v : Verdict) (k : ℕ) (value other : A)
+    → eqb (answer v k .number) 0 ≡ true → ifClear v value other ≡ value
+done-value clear k value other h = refl
+done-value (broken why) k value other h = absurd (false≢true (sym (refused-not-done why) ∙ h))
+
+pub broken-not-clear : (why : Refusal) → broken why ≡ clear → ⊥
+broken-not-clear why h = true≢false (ap (λ (v : Verdict). ifClear v false true) h)
+
+first : (kept : Bool) (v : Verdict) (why : Refusal) → cond kept v (broken why) ≡ clear → kept ≡ true
+first true v why h = refl
+first false v why h = absurd (broken-not-clear why h)
+
+rest : (kept : Bool) (v : Verdict) (why : Refusal) → cond kept v (broken why) ≡ clear → v ≡ clear
+rest true v why h = h
+rest false v why h = absurd (broken-not-clear why h)
+
+-- a clear verdict means that each check is kept, the first and those behind it
+pub kept-first : (c : Check) (cs : List Check) → verdict (c ∷ cs) ≡ clear → c .kept ≡ true
+kept-first c cs h = first (c .kept) (verdict cs) (c .refusal) h
+
+pub kept-rest : (c : Check) (cs : List Check) → verdict (c ∷ cs) ≡ clear → verdict cs ≡ clear
+kept-rest c cs h = rest (c .kept) (verdict cs) (c .refusal) h

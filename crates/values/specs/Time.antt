@@ -1,11 +1,12 @@
 -- Rule 5: the time code, its four bytes read and made.
-use mathlib.Core.Bool.{Bool, false}
+use mathlib.Core.Bool.{Bool, true, false}
 use mathlib.Core.List.{List, [], _∷_}
 use Prim.Native.Nat.{ℕ, _+_, _*_, _/_, _%_, _≤_}
 use lib.Dec.{leb}
 use Rattle.values.specs.Answer.{InvalidFixedBits, NotWritable}
 use Rattle.values.specs.Check.{Check, check, verdict, answer, ifClear}
 use Rattle.values.specs.Mask.{under, run, allSet, allClear, flag, x80, x40, xC0, x0F}
+use Rattle.values.specs.declared.time_code.MaybeTimeCode.{MaybeTimeCode}
 use Rattle.values.specs.declared.time_code.TimeCode.{TimeCode}
 use Rattle.values.specs.declared.time_code.TimeCodeRead.{TimeCodeRead}
 use Rattle.values.specs.declared.time_code.TimeCodeWritten.{TimeCodeWritten}
@@ -17,6 +18,13 @@ timeCode hours minutes seconds frames field drop =
 -- zeros, beside a refusal
 abbrev pub noTime : TimeCode
 noTime = timeCode 0 0 0 0 false false
+
+-- a time code that is there, and one that is not
+abbrev pub timePresent : TimeCode → MaybeTimeCode
+timePresent t = record { present = true; «time_code» = t }
+
+abbrev pub timeAbsent : MaybeTimeCode
+timeAbsent = record { present = false; «time_code» = noTime }
 
 -- the low four bits, 10 to 15 too
 abbrev pub units : ℕ → ℕ

@@ -29,6 +29,16 @@ impl Flags {
 
     pub const RESERVED: u8 = 0x01;
 
+    // No flag set, beside a refusal.
+    pub const NONE: Self = Self {
+        time_code: false,
+        cc_data: false,
+        svc_info: false,
+        svc_info_start: false,
+        svc_info_change: false,
+        svc_info_complete: false,
+    };
+
     // Bits 02 and 01 are not read.
     pub fn from_byte(byte: u8) -> Self
         ensures { λ r. ⌜ r ≡ flagsOf byte ⌝ }

@@ -19,6 +19,7 @@ pub use framerate::MaybeFramerate;
 pub use packet::Packet;
 pub use sequence::sequence_bytes;
 pub use sequence::sequence_count;
+pub use time_code::MaybeTimeCode;
 pub use time_code::TimeCode;
 pub use time_code::TimeCodeRead;
 pub use time_code::TimeCodeWritten;

@@ -15,6 +15,19 @@ pub struct TimeCode {
     pub drop_frame: bool,
 }
 
+// A time code that may be absent; then it is zeros.
+pub struct MaybeTimeCode {
+    pub present: bool,
+    pub time_code: TimeCode,
+}
+
+impl MaybeTimeCode {
+    pub const ABSENT: Self = Self {
+        present: false,
+        time_code: TimeCode::NONE,
+    };
+}
+
 // What reading gives: beside a refusal, no time code.
 pub struct TimeCodeRead {
     pub answer: Answer,

@@ -1,6 +1,8 @@
 //! Prints a small space of inputs whole, as lines or as a digest for each block.
 
 mod digest;
+mod reader;
+mod recipes;
 #[path = "../tape/refusal.rs"]
 mod refusal;
 mod services;
@@ -14,7 +16,11 @@ use std::io::{self, BufWriter, Write};
 type Sweep = fn(&mut dyn Write) -> io::Result<()>;
 
 /// A further sweep is one more row.
-const SWEEPS: [(&str, Sweep); 2] = [("values", values::sweep), ("services", services::sweep)];
+const SWEEPS: [(&str, Sweep); 3] = [
+    ("values", values::sweep),
+    ("services", services::sweep),
+    ("reader", reader::sweep),
+];
 
 fn main() -> io::Result<()> {
     let given: Vec<String> = std::env::args().skip(1).collect();

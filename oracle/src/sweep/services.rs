@@ -152,7 +152,7 @@ fn feed_entry_read(digest: &mut Digest, bytes: [u8; 6]) {
     }
 }
 
-fn feed_entry(digest: &mut Digest, entry: &ServiceEntry) {
+pub fn feed_entry(digest: &mut Digest, entry: &ServiceEntry) {
     digest.feed_all(&entry.language());
     match entry.service() {
         FieldOrService::Field(first) => digest.feed_all(&[0, if *first { 1 } else { 2 }]),

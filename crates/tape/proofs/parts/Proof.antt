@@ -17,11 +17,8 @@ abbrev μ-loop : tie.MeasureT-loop
 loop-holds : tie.Need-loop-holds Inv-loop μ-loop
 loop-holds c = search needs
 
-read-requires : tie.Need-read-requires Inv-loop μ-loop
-read-requires c κs = search needs
-
-count-requires : tie.Need-count-requires Inv-loop μ-loop
-count-requires c κs = search needs
+input-requires : tie.Need-input-requires Inv-loop μ-loop
+input-requires c κs = search needs
 
 same-length : tie.Need-same-length Inv-loop μ-loop
 same-length c = search needs
@@ -84,8 +81,7 @@ parts-spec =
     Inv-loop
     μ-loop
     loop-holds
-    read-requires
-    count-requires
+    input-requires
     same-length
     same-length-2
     same-length-3

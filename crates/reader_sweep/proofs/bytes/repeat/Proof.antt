@@ -1,23 +1,23 @@
--- The filling ends after the last byte.
+-- The putting ends after the last time. The buffer keeps its length.
 -- Assumes nothing.
 use borrow.Author.Needs.{needs}
+use mathlib.Core.Path.{_≡_}
 use Prim.Native.Nat.{_≤_, _-_}
 use lib.ListN.{length}
-use mathlib.Core.Path.{_≡_}
-use Rattle.tape.proofs.write.fill.Statement.{statement}
-use Rattle.tape.proofs.write.fill.Tie as tie
+use Rattle.reader_sweep.proofs.bytes.repeat.Statement.{statement}
+use Rattle.reader_sweep.proofs.bytes.repeat.Tie as tie
 
 abbrev Inv-loop : tie.InvT-loop
-Inv-loop lent₀ k₀ k-end lent k = (k ≤ length lent₀) × (length lent ≡ length lent₀)
+Inv-loop out₀ from byte count at₀ k₀ out at k = (k ≤ count) × (length out ≡ length out₀)
 
 abbrev μ-loop : tie.MeasureT-loop
-μ-loop lent₀ k₀ k-end lent k = length lent₀ - k
+μ-loop out₀ from byte count at₀ k₀ out at k = count - k
 
 loop-holds : tie.Need-loop-holds Inv-loop μ-loop
 loop-holds c = search needs
 
-slice-write-lent : tie.Need-slice-write-lent Inv-loop μ-loop
-slice-write-lent c = search needs
+put-requires : tie.Need-put-requires Inv-loop μ-loop
+put-requires c κs = search needs
 
 add-k : tie.Need-add-k Inv-loop μ-loop
 add-k c = search needs
@@ -34,14 +34,14 @@ same-length c = search needs
 returns : tie.Need-returns Inv-loop μ-loop
 returns c = search needs
 
-pub fill-spec : {M : Type 1} → statement M
-fill-spec =
+pub repeat-spec : {M : Type 1} → statement M
+repeat-spec =
     tie.close
     (tie.spec
     Inv-loop
     μ-loop
     loop-holds
-    slice-write-lent
+    put-requires
     add-k
     loop-less
     loop-again

@@ -1,0 +1,5 @@
+pub mod Answers
+pub mod Cases
+pub mod PacketReads
+pub mod ReaderReads
+pub mod Refusals

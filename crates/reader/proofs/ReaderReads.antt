@@ -1,0 +1,106 @@
+-- The reader: what the definition gives where the buffer is too short, where the packet is refused, and where it is accepted.
+-- Assumes nothing.
+use mathlib.Core.Bool.{Bool, true, false, cond, false≢true}
+use mathlib.Core.List.{List, []}
+use mathlib.Core.Path.{_≡_, _∙_, sym, refl, ap}
+use Prim.Native.Nat.{ℕ, _+_, _≤_, _<_}
+use native.Mathlib.Omega.{arith}
+use borrow.Author.Tests.{le-leb, lt-leb, lt-ltb}
+use lib.Dec.{eqb, ltb}
+use lib.ListN.{length}
+use Rattle.values.proofs.Verdicts.{done-clear, refused-shows}
+use Rattle.values.specs.Answer.{BufferTooShort, refused}
+use Rattle.values.specs.Bytes.{over}
+use Rattle.values.specs.Check.{Check, Verdict, answer, clear, ifClear, verdict}
+use Rattle.sections.proofs.CcDataReads.{captions-there, handed-long, handed-over, nothing-out}
+use Rattle.sections.specs.CcData.{ccDataChecks, ccDataSize, handOut, handedOut}
+use Rattle.sections.specs.Header.{flagsIn}
+use Rattle.sections.specs.Section.{sizeWhen, when}
+use Rattle.reader.proofs.PacketReads.{cc-data-of-packet}
+use Rattle.reader.specs.Packet.{captionLength, ccDataAt, fresh, packetChecks, packetRead, shownBy}
+use Rattle.reader.specs.Reader.{bufferAfter, captionsOf, cleared, read}
+use Rattle.reader.specs.declared.parser.CDPParser.{CDPParser}
+use Rattle.reader.specs.declared.parser.CDPParserRead.{CDPParserRead}
+use Rattle.values.specs.declared.answer.Answer.{Answer}
+
+abbrev result : Answer → CDPParser → CDPParserRead
+result a s = record { answer = a; parser = s }
+
+when-there : (present : Bool) (cs : List Check) → present ≡ true → verdict (when present cs) ≡ clear → verdict cs ≡ clear
+when-there true cs on h = h
+when-there false cs on h = absurd (false≢true on)
+
+-- a length of 0 goes with no caption section, and nothing put is nothing changed
+captions-out : (p : List ℕ) (i : ℕ) (buffer : List ℕ) → 95 ≤ length buffer → (present : Bool)
+    → (present ≡ true → i + ccDataSize p i ≤ length p)
+    → handOut p (ltb 0 (sizeWhen present (ccDataSize p i))) i buffer ≡ over 0 (cond present (handedOut p i) []) buffer
+unfolding over
+captions-out p i buffer room true there =
+    handed-over p i (ltb 0 (ccDataSize p i)) (lt-ltb 0 (ccDataSize p i) (omega arith)) buffer (omega (arith, there refl)) (omega arith)
+captions-out p i buffer room false there = sym (nothing-out p i false buffer refl)
+
+-- the packet's verdict, where its answer is done
+packet-clear : (p : List ℕ) → eqb (packetRead p .answer .number) 0 ≡ true → verdict (packetChecks p) ≡ clear
+unfolding packetRead
+packet-clear p right = done-clear (verdict (packetChecks p)) (captionLength p) right
+
+-- an accepted packet has all bytes of its captions, and as many are handed out as its answer says
+has-captions : (p : List ℕ) → verdict (packetChecks p) ≡ clear → flagsIn p .«cc_data» ≡ true → ccDataAt p + ccDataSize p (ccDataAt p) ≤ length p
+has-captions p h on = captions-there p (ccDataAt p) (when-there _ (ccDataChecks p (ccDataAt p)) on (cc-data-of-packet p h))
+
+out-long : (p : List ℕ) (i : ℕ) (present : Bool) → (present ≡ true → i + ccDataSize p i ≤ length p)
+    → length (cond present (handedOut p i) []) ≡ sizeWhen present (ccDataSize p i)
+out-long p i true there = handed-long p i (there refl)
+out-long p i false there = refl
+
+pub captions-long : (p : List ℕ) → verdict (packetChecks p) ≡ clear → length (captionsOf p) ≡ captionLength p
+captions-long p h = out-long p (ccDataAt p) (flagsIn p .«cc_data») (has-captions p h)
+
+-- the answer and the state
+module _ (s : CDPParser) (p : List ℕ) (room : ℕ) where
+  pub no-room : room < 95 → result (refused (BufferTooShort 95 room)) s ≡ read s p room
+  unfolding read
+  no-room a = simp (lt-leb _ _ a)
+
+  module _ (enough : 95 ≤ room) where
+    -- the packet's own checks are left
+    as-packet : result (answer (verdict (packetChecks p)) (captionLength p)) (ifClear (verdict (packetChecks p)) (shownBy p) (cleared s)) ≡ read s p room
+    unfolding read
+    as-packet = simp (le-leb _ _ enough)
+
+    pub packet-refused : eqb (packetRead p .answer .number) 0 ≡ false → result (packetRead p .answer) (cleared s) ≡ read s p room
+    unfolding packetRead
+    packet-refused wrong = refused-shows result (verdict (packetChecks p)) (captionLength p) (captionLength p) (shownBy p) (cleared s) wrong ∙ as-packet
+
+    pub packet-accepted : eqb (packetRead p .answer .number) 0 ≡ true → result (packetRead p .answer) (packetRead p .shown) ≡ read s p room
+    unfolding packetRead
+    packet-accepted right =
+        ap (λ (v : Verdict). result (answer v (captionLength p)) (ifClear v (shownBy p) fresh)) (packet-clear p right)
+        ∙ ap (λ (v : Verdict). result (answer v (captionLength p)) (ifClear v (shownBy p) (cleared s))) (sym (packet-clear p right))
+        ∙ as-packet
+
+-- the buffer
+module _ (p : List ℕ) (buffer : List ℕ) where
+  pub no-room-buffer : length buffer < 95 → buffer ≡ bufferAfter p buffer
+  unfolding bufferAfter
+  no-room-buffer a = simp (lt-leb _ _ a)
+
+  module _ (enough : 95 ≤ length buffer) where
+    buffer-as-packet : ifClear (verdict (packetChecks p)) (over 0 (captionsOf p) buffer) buffer ≡ bufferAfter p buffer
+    unfolding bufferAfter
+    buffer-as-packet = simp (le-leb _ _ enough)
+
+    pub refused-buffer : eqb (packetRead p .answer .number) 0 ≡ false → buffer ≡ bufferAfter p buffer
+    unfolding packetRead
+    refused-buffer wrong =
+        refused-shows (λ a b. b) (verdict (packetChecks p)) (captionLength p) (captionLength p) (over 0 (captionsOf p) buffer) buffer wrong
+        ∙ buffer-as-packet
+
+    module _ (right : eqb (packetRead p .answer .number) 0 ≡ true) where
+      pub accepted-buffer : handOut p (ltb 0 (packetRead p .answer .first)) (packetRead p .«cc_data_at») buffer ≡ bufferAfter p buffer
+      unfolding packetRead
+      accepted-buffer =
+          ap (λ (v : Verdict). handOut p (ltb 0 (answer v (captionLength p) .first)) (ifClear v (ccDataAt p) 0) buffer) (packet-clear p right)
+          ∙ captions-out p (ccDataAt p) buffer enough (flagsIn p .«cc_data») (has-captions p (packet-clear p right))
+          ∙ ap (λ (v : Verdict). ifClear v (over 0 (captionsOf p) buffer) buffer) (sym (packet-clear p right))
+          ∙ buffer-as-packet

@@ -1,0 +1,93 @@
+-- What the reader's definition promises, in words of its own. The contract of `reader::CDPParser::parse` says that the
+-- code's answer and state are `read` and that the buffer is left as `bufferAfter`, so that each of these is about the code.
+-- Assumes nothing.
+use mathlib.Core.Bool.{Bool, true, false, cond, true≢false}
+use mathlib.Core.List.{List, _++_}
+use mathlib.Core.Path.{_≡_, _∙_, sym, refl, ap}
+use Prim.Native.Nat.{ℕ, _+_, _≤_}
+use borrow.Author.Tests.{eq-eqb, le-leb}
+use lib.Dec.{eqb, leb}
+use lib.ListN.{drop, length, take}
+use lib.Seq.{take-at}
+use Rattle.values.proofs.Verdicts.{done-clear, kept-rest, refused-shows}
+use Rattle.values.specs.Answer.{BufferTooShort, refused}
+use Rattle.values.specs.Bytes.{over}
+use Rattle.values.specs.Check.{Verdict, answer, broken, check, clear, ifClear, verdict}
+use Rattle.values.specs.Rate.{noRate}
+use Rattle.values.specs.Time.{timeAbsent}
+use Rattle.reader.proofs.Answers.{fine, not-eleven, packet-fine}
+use Rattle.reader.proofs.ReaderReads.{captions-long}
+use Rattle.reader.specs.Packet.{captionLength, packetChecks, shownBy}
+use Rattle.reader.specs.Reader.{bufferAfter, captionRoom, captionsOf, cleared, read, readChecks}
+use Rattle.reader.specs.declared.parser.CDPParser.{CDPParser}
+use Rattle.reader.specs.declared.parser.CDPParserRead.{CDPParserRead}
+
+-- the definition, with rule 1's test and the packet's verdict as variables
+module _ (enough : Bool) (v : Verdict) (room length : ℕ) (shown s : CDPParser) where
+  abbrev whole : Verdict
+  whole = cond enough v (broken (BufferTooShort captionRoom room))
+
+  abbrev gives : CDPParserRead
+  gives = record { answer = answer whole length; parser = cond enough (ifClear whole shown (cleared s)) s }
+
+eleven : (enough : Bool) (v : Verdict) (room length : ℕ) (shown s : CDPParser) → fine v ≡ true
+    → eqb (gives enough v room length shown s .answer .number) 11 ≡ true → gives enough v room length shown s .parser ≡ s
+eleven false v room length shown s f h = refl
+eleven true clear room length shown s f h = absurd (true≢false (sym h))
+eleven true (broken why) room length shown s f h = absurd (true≢false (sym h ∙ not-eleven why f))
+
+clears : (enough : Bool) (v : Verdict) (room length : ℕ) (shown s : CDPParser)
+    → eqb (gives enough v room length shown s .answer .number) 0 ≡ false
+    → eqb (gives enough v room length shown s .answer .number) 11 ≡ false → gives enough v room length shown s .parser ≡ cleared s
+clears false v room length shown s h k = absurd (true≢false k)
+clears true clear room length shown s h k = absurd (true≢false h)
+clears true (broken why) room length shown s h k = refl
+
+module _ (s : CDPParser) (p buffer : List ℕ) where
+  -- what reading this packet with this caption buffer gives
+  abbrev given : CDPParserRead
+  given = read s p (length buffer)
+
+  -- a refusal writes no byte of the lent buffer
+  pub refusal-writes-nothing : eqb (given .answer .number) 0 ≡ false → bufferAfter p buffer ≡ buffer
+  unfolding read bufferAfter
+  refusal-writes-nothing h =
+      sym (refused-shows (λ a b. b) (verdict (readChecks p (length buffer))) (captionLength p) (captionLength p) (over 0 (captionsOf p) buffer) buffer h)
+
+  -- answer 11 changes nothing
+  pub eleven-changes-nothing : given .answer .number ≡ 11 → given .parser ≡ s
+  unfolding read
+  eleven-changes-nothing h =
+      eleven (leb captionRoom (length buffer)) (verdict (packetChecks p)) (length buffer) (captionLength p) (shownBy p) s (packet-fine p) (eq-eqb _ _ h)
+
+  -- any other refusal clears rate, time code and sequence, and keeps the service list and whether there is one
+  module _ (refusal : eqb (given .answer .number) 0 ≡ false) (other : eqb (given .answer .number) 11 ≡ false) where
+    refusal-clears : given .parser ≡ cleared s
+    unfolding read
+    refusal-clears = clears (leb captionRoom (length buffer)) (verdict (packetChecks p)) (length buffer) (captionLength p) (shownBy p) s refusal other
+
+    pub refusal-clears-rate : given .parser .framerate ≡ noRate
+    refusal-clears-rate = ap (λ (r : CDPParser). r .framerate) refusal-clears
+
+    pub refusal-clears-time-code : given .parser .«time_code» ≡ timeAbsent
+    refusal-clears-time-code = ap (λ (r : CDPParser). r .«time_code») refusal-clears
+
+    pub refusal-clears-sequence : given .parser .sequence ≡ 0
+    refusal-clears-sequence = ap (λ (r : CDPParser). r .sequence) refusal-clears
+
+    pub refusal-keeps-services : given .parser .«service_info» ≡ s .«service_info»
+    refusal-keeps-services = ap (λ (r : CDPParser). r .«service_info») refusal-clears
+
+  -- answer and state do not depend on what is in the buffer, nor on its length from 95 on
+  pub same-with-any-buffer : (other : List ℕ) → 95 ≤ length buffer → 95 ≤ length other → given ≡ read s p (length other)
+  unfolding read
+  same-with-any-buffer other a b = simp (le-leb _ _ a, le-leb _ _ b)
+
+  -- nor does what is handed out: on acceptance the buffer's first bytes, as many as the answer says, are the captions
+  pub acceptance-hands-out : eqb (given .answer .number) 0 ≡ true → take (given .answer .first) (bufferAfter p buffer) ≡ captionsOf p
+  unfolding read bufferAfter over
+  acceptance-hands-out h =
+      let all : verdict (readChecks p (length buffer)) ≡ clear = done-clear (verdict (readChecks p (length buffer))) (captionLength p) h in
+      let room = check (leb captionRoom (length buffer)) (BufferTooShort captionRoom (length buffer)) in
+      ap (λ (v : Verdict). take (answer v (captionLength p) .first) (ifClear v (over 0 (captionsOf p) buffer) buffer)) all
+      ∙ take-at (captionsOf p) (drop (0 + length (captionsOf p)) buffer) (captionLength p) (captions-long p (kept-rest room (packetChecks p) all))

@@ -1,0 +1,75 @@
+-- Rules 2 to 9, in their order: the places in a packet, its checks, and what it shows.
+use mathlib.Core.List.{List, [], _∷_, _++_}
+use Prim.Native.Nat.{ℕ, _+_}
+use Rattle.values.specs.Check.{Check, verdict, answer, ifClear}
+use Rattle.values.specs.Rate.{noRate}
+use Rattle.values.specs.Time.{timeAbsent}
+use Rattle.services.specs.ServiceList.{listAbsent}
+use Rattle.sections.specs.CcData.{ccDataChecks, ccDataSize}
+use Rattle.sections.specs.Footer.{closingChecks}
+use Rattle.sections.specs.Header.{headerChecks, rateOf, flagsIn, sequenceIn}
+use Rattle.sections.specs.Section.{when, sizeWhen}
+use Rattle.svc_section.specs.SvcInfo.{svcInfoChecks, svcInfoSize, svcInfoOf}
+use Rattle.sections.specs.TimeCode.{timeCodeChecks, timeCodeSize, timeCodeOf}
+use Rattle.reader.specs.declared.packet.PacketRead.{PacketRead}
+use Rattle.reader.specs.declared.parser.CDPParser.{CDPParser}
+use Rattle.services.specs.declared.list.MaybeServiceInfo.{MaybeServiceInfo}
+use Rattle.values.specs.declared.answer.Answer.{Answer}
+use Rattle.values.specs.declared.framerate.MaybeFramerate.{MaybeFramerate}
+use Rattle.values.specs.declared.time_code.MaybeTimeCode.{MaybeTimeCode}
+
+-- i, as it moves on: behind the header, the time code, the captions, the services
+abbrev pub timeCodeAt : ℕ
+timeCodeAt = 7
+
+abbrev pub ccDataAt : List ℕ → ℕ
+ccDataAt p = timeCodeAt + sizeWhen (flagsIn p .«time_code») timeCodeSize
+
+-- how many bytes are handed out, 0 without a caption section
+abbrev pub captionLength : List ℕ → ℕ
+captionLength p = sizeWhen (flagsIn p .«cc_data») (ccDataSize p (ccDataAt p))
+
+abbrev pub svcInfoAt : List ℕ → ℕ
+svcInfoAt p = ccDataAt p + captionLength p
+
+abbrev pub closingAt : List ℕ → ℕ
+closingAt p = svcInfoAt p + sizeWhen (flagsIn p .«svc_info») (svcInfoSize p (svcInfoAt p))
+
+-- rules 2 to 9, one after the other
+unfoldable pub packetChecks : List ℕ → List Check
+packetChecks p =
+    headerChecks p
+    ++ (when (flagsIn p .«time_code») (timeCodeChecks p timeCodeAt)
+    ++ (when (flagsIn p .«cc_data») (ccDataChecks p (ccDataAt p))
+    ++ (when (flagsIn p .«svc_info») (svcInfoChecks p (flagsIn p) (svcInfoAt p))
+    ++ closingChecks p (sequenceIn p) (closingAt p))))
+
+abbrev pub state : MaybeFramerate → MaybeTimeCode → ℕ → MaybeServiceInfo → CDPParser
+state rate time sequence services =
+    record { framerate = rate; «time_code» = time; sequence = sequence; «service_info» = services }
+
+-- a new reader: all absent, sequence 0
+abbrev pub fresh : CDPParser
+fresh = state noRate timeAbsent 0 listAbsent
+
+-- what an accepted packet shows: each value absent where its section is
+unfoldable pub shownBy : List ℕ → CDPParser
+shownBy p =
+    state (rateOf p)
+    (timeCodeOf p (flagsIn p .«time_code») timeCodeAt)
+    (sequenceIn p)
+    (svcInfoOf p (flagsIn p) (svcInfoAt p))
+
+-- what reading a packet gives, with no state and no buffer
+unfoldable pub packetRead : List ℕ → PacketRead
+packetRead p =
+    let v = verdict (packetChecks p) in
+    record {
+      answer = answer v (captionLength p);
+      shown = ifClear v (shownBy p) fresh;
+      «cc_data_at» = ifClear v (ccDataAt p) 0;
+    }
+
+-- a refusal shows what a new reader does
+abbrev pub refusedPacket : Answer → PacketRead
+refusedPacket a = record { answer = a; shown = fresh; «cc_data_at» = 0 }

@@ -1,0 +1,53 @@
+-- The reader: rule 1 before the others, and what a packet or a flush leaves.
+use mathlib.Core.Bool.{cond}
+use mathlib.Core.List.{List, [], _∷_}
+use Prim.Native.Nat.{ℕ}
+use lib.Dec.{leb}
+use lib.ListN.{length}
+use Rattle.values.specs.Answer.{BufferTooShort}
+use Rattle.values.specs.Bytes.{over}
+use Rattle.values.specs.Check.{Check, check, verdict, answer, ifClear}
+use Rattle.values.specs.Rate.{noRate}
+use Rattle.values.specs.Time.{timeAbsent}
+use Rattle.sections.specs.CcData.{handedOut}
+use Rattle.sections.specs.Header.{flagsIn}
+use Rattle.reader.specs.Packet as Packet
+use Rattle.reader.specs.Packet.{ccDataAt, captionLength, packetChecks, shownBy, state}
+use Rattle.reader.specs.declared.parser.CDPParser.{CDPParser}
+use Rattle.reader.specs.declared.parser.CDPParserRead.{CDPParserRead}
+
+-- the most that a packet can hand out: 2 and three times 31
+abbrev pub captionRoom : ℕ
+captionRoom = 95
+
+abbrev pub fresh : CDPParser
+fresh = Packet.fresh
+
+-- rules 1 to 9
+abbrev pub readChecks : List ℕ → ℕ → List Check
+readChecks p room = check (leb captionRoom room) (BufferTooShort captionRoom room) ∷ packetChecks p
+
+-- a refused packet: rate and time code absent, sequence 0, the service list as it was
+abbrev pub cleared : CDPParser → CDPParser
+cleared s = state noRate timeAbsent 0 (s .«service_info»)
+
+-- the answer, and the state: replaced, cleared, or as it was where the buffer is too short
+unfoldable pub read : CDPParser → List ℕ → ℕ → CDPParserRead
+read s p room =
+    let v = verdict (readChecks p room) in
+    record {
+      answer = answer v (captionLength p);
+      parser = cond (leb captionRoom room) (ifClear v (shownBy p) (cleared s)) s;
+    }
+
+-- what is handed out: nothing without a caption section
+abbrev pub captionsOf : List ℕ → List ℕ
+captionsOf p = cond (flagsIn p .«cc_data») (handedOut p (ccDataAt p)) []
+
+-- on acceptance these become the first bytes of the caption buffer; else it stays as it was
+unfoldable pub bufferAfter : List ℕ → List ℕ → List ℕ
+bufferAfter p buffer = ifClear (verdict (readChecks p (length buffer))) (over 0 (captionsOf p) buffer) buffer
+
+-- a flush makes the state fresh
+abbrev pub flushed : CDPParser → CDPParser
+flushed s = fresh

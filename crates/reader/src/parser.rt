@@ -1,0 +1,99 @@
+// The reader: what it shows, and how a packet or a flush changes that.
+ghost use mathlib.Core.Path.{_≡_};
+ghost use lib.ListN.{length};
+ghost use Rattle.reader.specs.Reader as Reader;
+use crate::packet::PacketRead;
+use sections::hand_out;
+use services::MaybeServiceInfo;
+use values::Answer;
+use values::MaybeFramerate;
+use values::MaybeTimeCode;
+use values::Packet;
+
+// What the last accepted packet had. After a refusal only its service list is left.
+pub struct CDPParser {
+    pub framerate: MaybeFramerate,
+    pub time_code: MaybeTimeCode,
+    pub sequence: u16,
+    pub service_info: MaybeServiceInfo,
+}
+
+// What reading gives: the answer, and the reader as it is from then on.
+pub struct CDPParserRead {
+    pub answer: Answer,
+    pub parser: CDPParser,
+}
+
+impl CDPParser {
+    pub const MIN_PACKET_LEN: usize = Packet::MIN_PACKET_LEN;
+
+    pub const TIME_CODE_ID: u8 = Packet::TIME_CODE_ID;
+
+    pub const CC_DATA_ID: u8 = Packet::CC_DATA_ID;
+
+    pub const SVC_INFO_ID: u8 = Packet::SVC_INFO_ID;
+
+    pub const CDP_FOOTER_ID: u8 = Packet::CDP_FOOTER_ID;
+
+    // Rule 1: room for the most captions that a packet can have.
+    pub const CAPTION_ROOM: usize = 95;
+
+    // A reader that has read nothing.
+    pub fn new() -> Self
+        ensures { λ r. ⌜ r ≡ Reader.fresh ⌝ }
+    {
+        let service_info = MaybeServiceInfo::absent();
+        Self {
+            framerate: MaybeFramerate::ABSENT,
+            time_code: MaybeTimeCode::ABSENT,
+            sequence: 0,
+            service_info,
+        }
+    }
+
+    // Reads a packet. An accepted one replaces all that is shown, and its captions are put into the lent buffer.
+    pub fn parse(self, packet: &[u8], captions: &mut [u8]) -> CDPParserRead
+        ensures { λ r. ⌜ r ≡ Reader.read self (now (packet .entry)) (length (now (captions .entry))) ⌝ }
+        ensures { λ _. ⌜ now (captions .exit) ≡ Reader.bufferAfter (now (packet .entry)) (now (captions .entry)) ⌝ }
+    {
+        let room = captions.len();
+        if room < Self::CAPTION_ROOM {
+            return CDPParserRead {
+                answer: Answer::buffer_too_short(Self::CAPTION_ROOM, room),
+                parser: self,
+            };
+        }
+        let read = PacketRead::parse(packet);
+        let answer = read.answer;
+        if !answer.is_done() {
+            return CDPParserRead {
+                answer,
+                parser: self.cleared(),
+            };
+        }
+        // A section with no captions is two bytes long: a length of 0 means that there is none.
+        hand_out(packet, 0 < answer.first, read.cc_data_at, captions);
+        let parser = read.shown;
+        CDPParserRead { answer, parser }
+    }
+
+    // Makes the reader new.
+    pub fn flush(self) -> Self
+        ensures { λ r. ⌜ r ≡ Reader.flushed self ⌝ }
+    {
+        Self::new()
+    }
+
+    // What a refused packet leaves: the service list.
+    fn cleared(self) -> Self
+        ensures { λ r. ⌜ r ≡ Reader.cleared self ⌝ }
+    {
+        let service_info = self.service_info;
+        Self {
+            framerate: MaybeFramerate::ABSENT,
+            time_code: MaybeTimeCode::ABSENT,
+            sequence: 0,
+            service_info,
+        }
+    }
+}

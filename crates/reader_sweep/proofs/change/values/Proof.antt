@@ -1,0 +1,55 @@
+-- The tally ends after the last value. Both buffers keep their length.
+-- Assumes nothing.
+use borrow.Author.Needs.{needs}
+use mathlib.Core.Path.{_≡_}
+use Prim.Native.Nat.{_≤_, _-_}
+use lib.ListN.{length}
+use Rattle.reader_sweep.proofs.change.values.Statement.{statement}
+use Rattle.reader_sweep.proofs.change.values.Tie as tie
+
+abbrev Inv-loop : tie.InvT-loop
+Inv-loop held packet₀ change captions₀ tally₀ value₀ packet captions tally value =
+    (value ≤ 256) × (length packet ≡ length packet₀) × (length captions ≡ length captions₀)
+
+abbrev μ-loop : tie.MeasureT-loop
+μ-loop held packet₀ change captions₀ tally₀ value₀ packet captions tally value =
+    256 - value
+
+loop-holds : tie.Need-loop-holds Inv-loop μ-loop
+loop-holds c = search needs
+
+changed-requires : tie.Need-changed-requires Inv-loop μ-loop
+changed-requires c κs = search needs
+
+add-value : tie.Need-add-value Inv-loop μ-loop
+add-value c = search needs
+
+loop-less : tie.Need-loop-less Inv-loop μ-loop
+loop-less c = search needs
+
+loop-again : tie.Need-loop-again Inv-loop μ-loop
+loop-again c = search needs
+
+same-length : tie.Need-same-length Inv-loop μ-loop
+same-length c = search needs
+
+same-length-2 : tie.Need-same-length-2 Inv-loop μ-loop
+same-length-2 c = search needs
+
+returns : tie.Need-returns Inv-loop μ-loop
+returns c = search needs
+
+pub values-spec : {M : Type 1} → statement M
+values-spec =
+    tie.close
+    (tie.spec
+    Inv-loop
+    μ-loop
+    loop-holds
+    changed-requires
+    add-value
+    loop-less
+    loop-again
+    same-length
+    same-length-2
+    returns)

@@ -1,0 +1,27 @@
+// Bytes put into a lent buffer.
+
+// Puts one byte, and gives the place behind it. Behind the buffer's end nothing is put.
+pub fn put(out: &mut [u8], at: usize, byte: u8) -> usize {
+    if at < out.len() {
+        out[at] = byte;
+        return at + 1;
+    }
+    at
+}
+
+pub fn put_all(out: &mut [u8], from: usize, bytes: &[u8]) -> usize {
+    let mut at = from;
+    for k in 0..bytes.len() {
+        at = put(out, at, bytes[k]);
+    }
+    at
+}
+
+// The same byte so many times.
+pub fn repeat(out: &mut [u8], from: usize, byte: u8, count: u8) -> usize {
+    let mut at = from;
+    for k in 0..count {
+        at = put(out, at, byte);
+    }
+    at
+}

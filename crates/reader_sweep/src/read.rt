@@ -1,0 +1,59 @@
+// One packet, read and fed to a digest.
+use crate::digest::all;
+use crate::digest::two;
+use crate::shown;
+use reader::CDPParser;
+use report::feed;
+use std::num::wrapping_add_u64;
+use values::Answer;
+
+// What the caption buffer holds before each packet, so that it shows what was written.
+const UNTOUCHED: u8 = 0xA5;
+
+// The digest over all packets read, and how many of them were accepted.
+pub struct Tally {
+    pub digest: u64,
+    pub accepted: u64,
+}
+
+impl Tally {
+    pub const NONE: Self = Self {
+        digest: 0,
+        accepted: 0,
+    };
+}
+
+// Feeds all that a caller sees: the answer, the reader and the caption buffer.
+pub fn packet(tally: Tally, held: CDPParser, packet: &[u8], captions: &mut [u8]) -> Tally {
+    fill(captions);
+    let read = held.parse(packet, captions);
+    let answer = read.answer;
+    let parser = read.parser;
+    let answered = answer_fed(tally.digest, answer);
+    let state = shown::reader(answered, parser);
+    Tally {
+        digest: all(state, captions),
+        accepted: counted(tally.accepted, answer),
+    }
+}
+
+fn fill(captions: &mut [u8]) {
+    for k in 0..captions.len() {
+        captions[k] = UNTOUCHED;
+    }
+}
+
+// A size in a refusal can be over 255.
+fn answer_fed(digest: u64, answer: Answer) -> u64 {
+    let number = feed(digest, answer.number);
+    two(two(number, answer.first as u64), answer.second as u64)
+}
+
+// No line reads so many packets that this wraps.
+fn counted(accepted: u64, answer: Answer) -> u64 {
+    if answer.is_done() {
+        wrapping_add_u64(accepted, 1)
+    } else {
+        accepted
+    }
+}

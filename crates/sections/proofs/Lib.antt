@@ -1,0 +1,4 @@
+pub mod CcDataReads
+pub mod ClosingReads
+pub mod HeaderReads
+pub mod TimeCodeReads

@@ -1,0 +1,5 @@
+pub mod Section
+pub mod Header
+pub mod TimeCode
+pub mod CcData
+pub mod Footer

@@ -1,0 +1,50 @@
+-- Rule 5: the time code, five bytes from i on.
+use mathlib.Core.Bool.{Bool, cond}
+use mathlib.Core.List.{List, [], _∷_}
+use Prim.Native.Nat.{ℕ, _+_}
+use lib.Dec.{eqb}
+use Rattle.values.specs.Answer.{WrongMagic}
+use Rattle.values.specs.Bytes.{byte}
+use Rattle.values.specs.Check.{Check, check, verdict, answer, ifClear}
+use Rattle.values.specs.Packet.{timeCodeId}
+use Rattle.values.specs.Time.{timeChecks, timeOf, timePresent, timeAbsent}
+use Rattle.sections.specs.Section.{sizeCheck, when, sizeWhen}
+use Rattle.sections.specs.declared.time_code.TimeCodeSection.{TimeCodeSection}
+use Rattle.values.specs.declared.answer.Answer.{Answer}
+use Rattle.values.specs.declared.time_code.MaybeTimeCode.{MaybeTimeCode}
+use Rattle.values.specs.declared.time_code.TimeCode.{TimeCode}
+
+abbrev pub timeCodeSize : ℕ
+timeCodeSize = 5
+
+-- the four bytes behind the id byte
+abbrev pub fourBehind : List ℕ → ℕ → List ℕ
+fourBehind p i = byte p (i + 1) ∷ byte p (i + 2) ∷ byte p (i + 3) ∷ byte p (i + 4) ∷ []
+
+-- n is at least i+5; byte i is 71; then the fixed bits of the four bytes behind it
+abbrev pub timeCodeChecks : List ℕ → ℕ → List Check
+timeCodeChecks p i =
+    sizeCheck p (i + 5)
+    ∷ check (eqb (byte p i) timeCodeId) WrongMagic
+    ∷ timeChecks (byte p (i + 1)) (byte p (i + 2)) (byte p (i + 3)) (byte p (i + 4))
+
+-- what the four bytes say
+abbrev pub timeCodeIn : List ℕ → ℕ → TimeCode
+timeCodeIn p i = timeOf (byte p (i + 1)) (byte p (i + 2)) (byte p (i + 3)) (byte p (i + 4))
+
+-- absent where the flag is clear
+abbrev pub timeCodeOf : List ℕ → Bool → ℕ → MaybeTimeCode
+timeCodeOf p present i = cond present (timePresent (timeCodeIn p i)) timeAbsent
+
+-- what reading the section gives; with 0 goes how far i moves on
+unfoldable pub timeCodeRead : List ℕ → Bool → ℕ → TimeCodeSection
+timeCodeRead p present i =
+    let v = verdict (when present (timeCodeChecks p i)) in
+    record {
+      answer = answer v (sizeWhen present timeCodeSize);
+      «time_code» = ifClear v (timeCodeOf p present i) timeAbsent;
+    }
+
+-- a refusal shows no time code
+abbrev pub refusedTimeCode : Answer → TimeCodeSection
+refusedTimeCode a = record { answer = a; «time_code» = timeAbsent }

@@ -1,0 +1,58 @@
+-- Rule 7: the service section, 2+7s bytes from i on.
+use mathlib.Core.Bool.{Bool, Bool·beq, cond, _&&_}
+use mathlib.Core.List.{List, [], _∷_, _++_}
+use Prim.Native.Nat.{ℕ, _+_}
+use lib.Dec.{eqb}
+use Rattle.values.specs.Answer.{WrongMagic, ServiceFlagsMismatched}
+use Rattle.values.specs.Bytes.{byte, part}
+use Rattle.values.specs.Check.{Check, check, verdict, answer, ifClear}
+use Rattle.values.specs.Mask.{under, x0F}
+use Rattle.values.specs.Packet.{servicesId}
+use Rattle.services.specs.Section.{sectionChecks, listOf}
+use Rattle.services.specs.ServiceList.{sectionLength, listPresent, listAbsent}
+use Rattle.sections.specs.Section.{sizeCheck, when, sizeWhen}
+use Rattle.svc_section.specs.declared.svc_info.SvcInfoSection.{SvcInfoSection}
+use Rattle.services.specs.declared.list.MaybeServiceInfo.{MaybeServiceInfo}
+use Rattle.services.specs.declared.list.ServiceInfo.{ServiceInfo}
+use Rattle.values.specs.declared.answer.Answer.{Answer}
+use Rattle.values.specs.declared.flags.Flags.{Flags}
+
+-- s is the low four bits of byte i+1
+abbrev pub svcInfoSize : List ℕ → ℕ → ℕ
+svcInfoSize p i = sectionLength (under x0F (byte p (i + 1)))
+
+-- the section's own bytes
+abbrev pub svcInfoBytes : List ℕ → ℕ → List ℕ
+svcInfoBytes p i = part i (svcInfoSize p i) p
+
+-- start, change and complete of the section are the header's
+unfoldable pub sameFlags : ServiceInfo → Flags → Bool
+sameFlags l f =
+    Bool·beq (l .start) (f .«svc_info_start»)
+    && (Bool·beq (l .change) (f .«svc_info_change») && Bool·beq (l .complete) (f .«svc_info_complete»))
+
+-- n is at least i+2; byte i is 73; n is at least i+2+7s; the rules of a section; the flags
+abbrev pub svcInfoChecks : List ℕ → Flags → ℕ → List Check
+svcInfoChecks p f i =
+    sizeCheck p (i + 2)
+    ∷ check (eqb (byte p i) servicesId) WrongMagic
+    ∷ sizeCheck p (i + svcInfoSize p i)
+    ∷ sectionChecks (svcInfoBytes p i)
+    ++ check (sameFlags (listOf (svcInfoBytes p i)) f) ServiceFlagsMismatched ∷ []
+
+-- absent where the flag is clear
+abbrev pub svcInfoOf : List ℕ → Flags → ℕ → MaybeServiceInfo
+svcInfoOf p f i = cond (f .«svc_info») (listPresent (listOf (svcInfoBytes p i))) listAbsent
+
+-- what reading the section gives; with 0 goes how far i moves on
+unfoldable pub svcInfoRead : List ℕ → Flags → ℕ → SvcInfoSection
+svcInfoRead p f i =
+    let v = verdict (when (f .«svc_info») (svcInfoChecks p f i)) in
+    record {
+      answer = answer v (sizeWhen (f .«svc_info») (svcInfoSize p i));
+      «service_info» = ifClear v (svcInfoOf p f i) listAbsent;
+    }
+
+-- a refusal shows no list
+abbrev pub refusedSvcInfo : Answer → SvcInfoSection
+refusedSvcInfo a = record { answer = a; «service_info» = listAbsent }

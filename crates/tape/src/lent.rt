@@ -1,0 +1,28 @@
+// The bytes that a line lends to a call.
+use crate::print;
+use crate::print::word;
+use crate::words;
+use crate::words::NumberWord;
+
+// The most that a line may lend.
+const MOST: u64 = 4096;
+
+// What they hold before the call, so that they show what was written.
+const UNTOUCHED: u8 = 0xA5;
+
+// How many a line lends is its first word behind the letter.
+pub fn room(line: &[u8]) -> NumberWord {
+    words::number(line, words::operands(line), MOST)
+}
+
+pub fn fill(lent: &mut [u8]) {
+    for k in 0..lent.len() {
+        lent[k] = UNTOUCHED;
+    }
+}
+
+// All of them are printed, written or not.
+pub fn show(out: &mut [u8], at: usize, lent: &[u8]) -> usize {
+    let named = word(out, at, b" buf ");
+    print::bytes(out, named, lent)
+}

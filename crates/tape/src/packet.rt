@@ -1,0 +1,53 @@
+// The operations P and F: a packet, read by the one reader of the tape, and a flush of the reader.
+use crate::lent;
+use crate::operation::State;
+use crate::print::word;
+use crate::show;
+use crate::words;
+
+pub fn read(line: &[u8], given: &mut [u8], lent: &mut [u8], out: &mut [u8], s: State) -> State {
+    let lends = lent::room(line);
+    let room = lends.value as usize;
+    let found = words::bytes(line, words::mark(line, lends.next, b' '), given);
+    let count = found.count;
+    if !words::ends(line, found.next) {
+        return s.malformed(out);
+    }
+    if given.len() < count {
+        return s.malformed(out);
+    }
+    if lent.len() < room {
+        return s.malformed(out);
+    }
+    read_into(&given[0..count], &mut lent[0..room], out, s)
+}
+
+fn read_into(packet: &[u8], lent: &mut [u8], out: &mut [u8], s: State) -> State {
+    lent::fill(lent);
+    let before = s.parser;
+    let read = before.parse(packet, lent);
+    let answer = read.answer;
+    let parser = read.parser;
+    let letter = word(out, s.at, b"P ");
+    let answered = show::answer(out, letter, answer);
+    let shown = show::parser(out, answered, parser);
+    State {
+        length: s.length,
+        at: lent::show(out, shown, lent),
+        parser,
+    }
+}
+
+pub fn flush(line: &[u8], out: &mut [u8], s: State) -> State {
+    if !words::ends(line, 1) {
+        return s.malformed(out);
+    }
+    let before = s.parser;
+    let parser = before.flush();
+    let letter = word(out, s.at, b"F");
+    State {
+        length: s.length,
+        at: show::parser(out, letter, parser),
+        parser,
+    }
+}
