@@ -2,7 +2,7 @@
 -- Assumes nothing.
 use mathlib.Core.Bool.{Bool, true, false, cond, not, _&&_, false≢true}
 use mathlib.Core.List.{List, [], _∷_, _++_}
-use mathlib.Core.Path.{_≡_, _∙_, sym, refl, ap, ap₂}
+use mathlib.Core.Path.{_≡_, refl}
 use Prim.Native.Nat.{ℕ, zero, suc, _+_}
 use lib.Dec.{eqb}
 use lib.ListN.{length}
@@ -13,15 +13,13 @@ use Rattle.values.specs.Bytes.{byte}
 use Rattle.values.specs.Check.{Check, Verdict, broken, check, clear, verdict}
 use Rattle.values.specs.Mask.{allClear, allSet, x3E, x3F, x80}
 use Rattle.values.specs.Packet.{footerId}
-use Rattle.entries.specs.Entry.{entryChecks, kindCheck}
-use Rattle.services.specs.Section.{checksAt, countOf, entryListChecks, frameChecks, sectionChecks, sixBehind}
+use Rattle.services.specs.Section.{checksAt, countOf, entryListChecks, listOf, sectionChecks}
 use Rattle.sections.specs.CcData.{ccDataChecks}
-use Rattle.sections.specs.Footer.{closingChecks, footerChecks, footerFrom, futureChecks, futureChecksAt, futureLength}
-use Rattle.sections.specs.Header.{flagsIn, headerChecks, sequenceIn}
+use Rattle.footer.specs.Footer.{closingChecks, footerChecks, footerFrom, futureChecks, futureChecksAt, futureLength}
+use Rattle.sections.specs.Header.{flagsIn, sequenceIn}
 use Rattle.sections.specs.Section.{when}
 use Rattle.svc_section.specs.SvcInfo.{sameFlags, svcInfoBytes, svcInfoChecks}
 use Rattle.sections.specs.TimeCode.{timeCodeChecks}
-use Rattle.services.specs.Section.{listOf}
 use Rattle.reader.specs.Packet.{ccDataAt, closingAt, packetChecks, svcInfoAt}
 
 -- a refusal of rules 2 to 9: 1 to 9

@@ -3,7 +3,7 @@
 use mathlib.Core.Bool.{true, _&&_}
 use mathlib.Core.Path.{_≡_, refl}
 use Prim.Native.Nat.{ℕ}
-use Rattle.sections.specs.Footer.{closingChecks}
+use Rattle.footer.specs.Footer.{closingChecks}
 use Rattle.values.specs.Rate.{fromId}
 use Rattle.reader.specs.Cases.{p1, p2, p3, p4, p5, p6, p7}
 use Rattle.reader.specs.Packet.{packetChecks, shownBy}

@@ -1,22 +1,26 @@
 -- A packet, section by section: what the definition gives where a section is the first that is refused, and where none is.
 -- Assumes nothing.
-use mathlib.Core.Bool.{Bool, true, false, true≢false}
-use mathlib.Core.List.{List, _++_}
+use mathlib.Core.Bool.{Bool, true, false, _&&_, true≢false}
+use mathlib.Core.List.{List, [], _∷_, _++_}
 use mathlib.Core.Path.{_≡_, _∙_, sym, refl, ap}
 use Prim.Native.Nat.{ℕ, _+_, _≤_}
 use native.Mathlib.Omega.{arith}
+use borrow.Author.Tests.{eqb-true}
 use lib.Dec.{eqb}
-use Rattle.values.proofs.Verdicts.{andThen, broken-not-clear, done-clear, refused-stays, verdict-append}
-use Rattle.values.specs.Answer.{done}
+use lib.ListN.{length}
+use Rattle.values.proofs.Verdicts.{andThen, broken-not-clear, done-clear, kept-first, kept-rest, refused-stays, verdict-append}
+use Rattle.values.specs.Answer.{LengthMismatch, UnknownFramerate, WrongMagic, done}
+use Rattle.values.specs.Bytes.{byte}
+use Rattle.values.specs.Packet.{leastSize}
 use Rattle.values.specs.Rate.{noRate}
 use Rattle.values.specs.Flags.{noFlags}
 use Rattle.values.specs.Time.{timeAbsent}
 use Rattle.services.specs.ServiceList.{listAbsent}
-use Rattle.values.specs.Check.{Check, Verdict, answer, broken, clear, ifClear, verdict}
+use Rattle.values.specs.Check.{Check, Verdict, answer, broken, check, clear, ifClear, verdict}
 use Rattle.sections.specs.CcData.{ccDataChecks, ccDataRead, ccDataSize}
-use Rattle.sections.specs.Footer.{closingChecks, closingRead}
+use Rattle.footer.specs.Footer.{closingChecks, closingRead}
 use Rattle.sections.specs.Header.{flagsIn, headerChecks, headerRead, rateOf, sequenceIn}
-use Rattle.sections.specs.Section.{sizeWhen, when}
+use Rattle.sections.specs.Section.{sizeCheck, sizeWhen, when}
 use Rattle.svc_section.specs.SvcInfo.{svcInfoChecks, svcInfoOf, svcInfoRead, svcInfoSize}
 use Rattle.sections.specs.TimeCode.{timeCodeChecks, timeCodeOf, timeCodeRead}
 use Rattle.reader.specs.Packet.{captionLength, ccDataAt, closingAt, fresh, packetChecks, packetRead, refusedPacket, shownBy, state, svcInfoAt}
@@ -233,7 +237,14 @@ module _ (p : List ℕ) where
         unfolding closingRead packetRead shownBy
         packet-whole h = ap (λ (v : Verdict). given v (captionLength p) (shownBy p) (ccDataAt p)) (sym (behind-svc-info ∙ done-clear closing 0 h))
 
-  -- the captions of an accepted packet
+  -- the parts of an accepted packet: its size is the one that it says, and its captions are clear
+  pub size-of-packet : verdict (packetChecks p) ≡ clear → byte p 2 ≡ length p
+  size-of-packet h =
+      let size : Check = check (eqb (byte p 2) (length p)) (LengthMismatch (byte p 2) (length p)) in
+      let rate : List Check = check (rateOf p .present) UnknownFramerate ∷ [] in
+      let magic : Check = check (eqb (byte p 0) 0x96 && eqb (byte p 1) 0x69) WrongMagic in
+      eqb-true _ _ (kept-first size rate (kept-rest magic (size ∷ rate) (kept-rest (sizeCheck p leastSize) (magic ∷ size ∷ rate) (and-first header _ (sym in-order ∙ h)))))
+
   pub cc-data-of-packet : verdict (packetChecks p) ≡ clear → ccData ≡ clear
   cc-data-of-packet h = and-first _ _ (and-second timeCode _ (and-second header _ (sym in-order ∙ h)))
 

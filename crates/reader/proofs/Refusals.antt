@@ -2,20 +2,22 @@
 -- code's answer and state are `read` and that the buffer is left as `bufferAfter`, so that each of these is about the code.
 -- Assumes nothing.
 use mathlib.Core.Bool.{Bool, true, false, cond, true≢false}
-use mathlib.Core.List.{List, _++_}
+use mathlib.Core.List.{List}
 use mathlib.Core.Path.{_≡_, _∙_, sym, refl, ap}
-use Prim.Native.Nat.{ℕ, _+_, _≤_}
+use Prim.Native.Nat.{ℕ, _+_, _≤_, _<_}
+use native.Mathlib.Omega.{arith}
 use borrow.Author.Tests.{eq-eqb, le-leb}
 use lib.Dec.{eqb, leb}
 use lib.ListN.{drop, length, take}
 use lib.Seq.{take-at}
-use Rattle.values.proofs.Verdicts.{done-clear, kept-rest, refused-shows}
-use Rattle.values.specs.Answer.{BufferTooShort, refused}
-use Rattle.values.specs.Bytes.{over}
-use Rattle.values.specs.Check.{Verdict, answer, broken, check, clear, ifClear, verdict}
+use Rattle.values.proofs.Verdicts.{done-clear, kept-rest, refused-not-done, refused-shows}
+use Rattle.values.specs.Answer.{BufferTooShort}
+use Rattle.values.specs.Bytes.{byte, over}
+use Rattle.values.specs.Check.{Check, Verdict, answer, broken, check, clear, ifClear, verdict}
 use Rattle.values.specs.Rate.{noRate}
 use Rattle.values.specs.Time.{timeAbsent}
 use Rattle.reader.proofs.Answers.{fine, not-eleven, packet-fine}
+use Rattle.reader.proofs.PacketReads.{size-of-packet}
 use Rattle.reader.proofs.ReaderReads.{captions-long}
 use Rattle.reader.specs.Packet.{captionLength, packetChecks, shownBy}
 use Rattle.reader.specs.Reader.{bufferAfter, captionRoom, captionsOf, cleared, read, readChecks}
@@ -42,6 +44,14 @@ clears : (enough : Bool) (v : Verdict) (room length : ℕ) (shown s : CDPParser)
 clears false v room length shown s h k = absurd (true≢false k)
 clears true clear room length shown s h k = absurd (true≢false h)
 clears true (broken why) room length shown s h k = refl
+
+refused-unless : (v : Verdict) (length : ℕ) → (v ≡ clear → ⊥) → eqb (answer v length .number) 0 ≡ false
+refused-unless clear length h = absurd (h refl)
+refused-unless (broken why) length h = refused-not-done why
+
+-- rule 1, as the first of the reader's checks
+abbrev roomCheck : ℕ → Check
+roomCheck room = check (leb captionRoom room) (BufferTooShort captionRoom room)
 
 module _ (s : CDPParser) (p buffer : List ℕ) where
   -- what reading this packet with this caption buffer gives
@@ -78,6 +88,13 @@ module _ (s : CDPParser) (p buffer : List ℕ) where
     pub refusal-keeps-services : given .parser .«service_info» ≡ s .«service_info»
     refusal-keeps-services = ap (λ (r : CDPParser). r .«service_info») refusal-clears
 
+  -- a packet over 255 bytes, which no length byte can say, is refused
+  pub long-refused : byte p 2 ≤ 255 → 255 < length p → eqb (given .answer .number) 0 ≡ false
+  unfolding read
+  long-refused a b =
+      refused-unless (verdict (readChecks p (length buffer))) (captionLength p)
+      (λ h. let s = size-of-packet p (kept-rest (roomCheck (length buffer)) (packetChecks p) h) in omega (arith, a, b, s))
+
   -- answer and state do not depend on what is in the buffer, nor on its length from 95 on
   pub same-with-any-buffer : (other : List ℕ) → 95 ≤ length buffer → 95 ≤ length other → given ≡ read s p (length other)
   unfolding read
@@ -88,6 +105,5 @@ module _ (s : CDPParser) (p buffer : List ℕ) where
   unfolding read bufferAfter over
   acceptance-hands-out h =
       let all : verdict (readChecks p (length buffer)) ≡ clear = done-clear (verdict (readChecks p (length buffer))) (captionLength p) h in
-      let room = check (leb captionRoom (length buffer)) (BufferTooShort captionRoom (length buffer)) in
       ap (λ (v : Verdict). take (answer v (captionLength p) .first) (ifClear v (over 0 (captionsOf p) buffer) buffer)) all
-      ∙ take-at (captionsOf p) (drop (0 + length (captionsOf p)) buffer) (captionLength p) (captions-long p (kept-rest room (packetChecks p) all))
+      ∙ take-at (captionsOf p) (drop (0 + length (captionsOf p)) buffer) (captionLength p) (captions-long p (kept-rest (roomCheck (length buffer)) (packetChecks p) all))

@@ -6,7 +6,6 @@ use lib.Dec.{eqb}
 use Rattle.reader.specs.Reader.{captionRoom, fresh, read}
 use Rattle.reader.specs.declared.parser.CDPParser.{CDPParser}
 use Rattle.reader.specs.declared.parser.CDPParserRead.{CDPParserRead}
-use Rattle.values.specs.declared.answer.Answer.{Answer}
 
 -- a packet read by a new reader, with just enough room for captions
 abbrev first : List ℕ → CDPParserRead

@@ -1,12 +1,12 @@
 -- Rules 2 to 9, in their order: the places in a packet, its checks, and what it shows.
-use mathlib.Core.List.{List, [], _∷_, _++_}
+use mathlib.Core.List.{List, _++_}
 use Prim.Native.Nat.{ℕ, _+_}
 use Rattle.values.specs.Check.{Check, verdict, answer, ifClear}
 use Rattle.values.specs.Rate.{noRate}
 use Rattle.values.specs.Time.{timeAbsent}
 use Rattle.services.specs.ServiceList.{listAbsent}
 use Rattle.sections.specs.CcData.{ccDataChecks, ccDataSize}
-use Rattle.sections.specs.Footer.{closingChecks}
+use Rattle.footer.specs.Footer.{closingChecks}
 use Rattle.sections.specs.Header.{headerChecks, rateOf, flagsIn, sequenceIn}
 use Rattle.sections.specs.Section.{when, sizeWhen}
 use Rattle.svc_section.specs.SvcInfo.{svcInfoChecks, svcInfoSize, svcInfoOf}

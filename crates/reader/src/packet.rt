@@ -2,10 +2,10 @@
 ghost use mathlib.Core.Path.{_≡_};
 ghost use Rattle.reader.specs.Packet.{packetRead, refusedPacket};
 use crate::parser::CDPParser;
+use footer::closing;
 use sections::Header;
 use sections::TimeCodeSection;
 use sections::cc_data;
-use sections::closing;
 use svc_section::SvcInfoSection;
 use values::Answer;
 

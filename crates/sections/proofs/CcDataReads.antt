@@ -19,7 +19,6 @@ use Rattle.values.specs.Mask.{allSet, xE0}
 use Rattle.values.specs.Packet.{captionsId}
 use Rattle.sections.specs.Section.{sizeCheck}
 use Rattle.sections.specs.CcData.{ccCount, ccDataChecks, ccDataRead, ccDataSize, handOut, handedOut}
-use Rattle.values.specs.declared.answer.Answer.{Answer}
 
 -- the last of four checks, where all are kept
 fourth : (a b c d : Check) → verdict (a ∷ b ∷ c ∷ d ∷ []) ≡ clear → d .kept ≡ true

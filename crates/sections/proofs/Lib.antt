@@ -1,4 +1,3 @@
 pub mod CcDataReads
-pub mod ClosingReads
 pub mod HeaderReads
 pub mod TimeCodeReads

@@ -2,4 +2,3 @@ pub mod Section
 pub mod Header
 pub mod TimeCode
 pub mod CcData
-pub mod Footer

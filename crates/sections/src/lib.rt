@@ -1,11 +1,9 @@
 // The parts of a packet, each read by itself: the blocks of CDPParser::parse in parser.rs of the Rust.
 mod captions;
-mod footer;
 mod header;
 mod time_code;
 
 pub use captions::cc_data;
 pub use captions::hand_out;
-pub use footer::closing;
 pub use header::Header;
 pub use time_code::TimeCodeSection;

@@ -1,7 +1,7 @@
 -- Rule 7, test by test: what the definition gives where a test is the first that fails, and where none does.
 -- Assumes nothing.
 use mathlib.Core.Bool.{Bool, Bool·beq, not, true, false}
-use mathlib.Core.List.{List, [], _∷_, _++_}
+use mathlib.Core.List.{List, [], _∷_}
 use mathlib.Core.Path.{_≡_, _∙_, sym, ap}
 use Prim.Native.Nat.{ℕ, _+_, _-_, _*_, _/_, _%_, _≤_, _<_}
 use native.Mathlib.Omega.{arith}

@@ -1,6 +1,6 @@
 -- `reader::PacketRead::parse`: the sections one after the other, each where the one before it ends.
 -- Assumes nothing.
-use mathlib.Core.Bool.{true, false}
+use mathlib.Core.Bool.{true}
 use mathlib.Core.List.{List}
 use mathlib.Core.Path.{_≡_, _∙_, sym}
 use Prim.Native.Nat.{ℕ}

@@ -1,8 +1,7 @@
 -- Rule 8, turn by turn, and rule 9, test by test.
 -- Assumes nothing.
-use mathlib.Core.Bool.{true, false}
-use mathlib.Core.List.{List, [], _∷_, _++_, append-assoc}
-use mathlib.Core.Path.{_≡_, _∙_, sym, refl, ap}
+use mathlib.Core.List.{List, _++_}
+use mathlib.Core.Path.{_≡_, _∙_, sym, ap}
 use Prim.Native.Nat.{ℕ, zero, suc, _+_, _-_, _≤_, _<_}
 use native.Mathlib.Omega.{arith}
 use borrow.Author.Tests.{eq-eqb, ne-eqb, le-leb, lt-leb}
@@ -10,9 +9,9 @@ use lib.ListN.{length}
 use Rattle.values.proofs.Verdicts.{andThen, verdict-append}
 use Rattle.values.specs.Answer.{ChecksumFailed, LengthMismatch, SequenceCountMismatch, WrongMagic, done, refused}
 use Rattle.values.specs.Bytes.{byte}
-use Rattle.values.specs.Check.{Check, Verdict, answer, verdict}
+use Rattle.values.specs.Check.{Verdict, answer, verdict}
 use Rattle.values.specs.Sequence.{sequenceOf}
-use Rattle.sections.specs.Footer.{checksumOf, closingChecks, closingRead, footerChecks, footerFrom, footerRead, futureChecks, futureChecksAt, futureLength}
+use Rattle.footer.specs.Footer.{checksumOf, closingChecks, closingRead, footerChecks, footerFrom, footerRead, futureChecks, futureChecksAt, futureLength}
 
 -- rule 9
 module _ (p : List ℕ) (sequence i : ℕ) where

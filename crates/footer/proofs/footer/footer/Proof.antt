@@ -1,12 +1,12 @@
--- `sections::footer::footer` is rule 9, test by test.
+-- `footer::footer::footer` is rule 9, test by test.
 -- Assumes nothing.
 use mathlib.Core.Path.{_∙_, sym}
 use native.Mathlib.Omega.{arith}
 use lib.Seq.{length-take-le}
-use Rattle.sections.proofs.ClosingReads.{footer-short, other-sequence, other-checksum, footer-whole}
+use Rattle.footer.proofs.ClosingReads.{footer-short, other-sequence, other-checksum, footer-whole}
 use borrow.Author.Needs.{needs}
-use Rattle.sections.proofs.footer.footer.Statement.{statement}
-use Rattle.sections.proofs.footer.footer.Tie as tie
+use Rattle.footer.proofs.footer.footer.Statement.{statement}
+use Rattle.footer.proofs.footer.footer.Tie as tie
 
 add-if1 : tie.Need-add-if1
 add-if1 c = search needs

@@ -1,12 +1,12 @@
--- `sections::closing`: over the future sections of rule 8, and then rule 9.
+-- `footer::closing`: over the future sections of rule 8, and then rule 9.
 -- Assumes nothing.
 use mathlib.Core.Path.{_∙_}
 use Prim.Native.Nat.{_+_, _-_}
 use native.Mathlib.Omega.{arith}
 use borrow.Author.Needs.{needs}
-use Rattle.sections.proofs.ClosingReads.{Reached, begins, footer-reached, future-cut, goes-on, id-high, id-low, nothing-behind, nothing-there}
-use Rattle.sections.proofs.footer.closing.Statement.{statement}
-use Rattle.sections.proofs.footer.closing.Tie as tie
+use Rattle.footer.proofs.ClosingReads.{Reached, begins, footer-reached, future-cut, goes-on, id-high, id-low, nothing-behind, nothing-there}
+use Rattle.footer.proofs.footer.closing.Statement.{statement}
+use Rattle.footer.proofs.footer.closing.Tie as tie
 
 abbrev Inv-loop : tie.InvT-loop
 Inv-loop packet sequence at size i₀ i = Reached packet sequence at i

@@ -1,0 +1,2 @@
+pub mod ClosingReads
+pub mod FooterFound
