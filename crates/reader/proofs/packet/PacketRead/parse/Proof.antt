@@ -2,14 +2,14 @@
 -- Assumes nothing.
 use mathlib.Core.Bool.{true}
 use mathlib.Core.List.{List}
-use mathlib.Core.Path.{_≡_, _∙_, sym}
+use mathlib.Core.Path.{_≡_, _∙_, sym, ap}
 use Prim.Native.Nat.{ℕ}
 use native.Mathlib.Omega.{arith}
 use borrow.Author.Tests.{not-true, not-false}
 use denote.Ref.{now}
 use lib.Dec.{eqb}
 use Rattle.sections.specs.Header.{headerRead}
-use Rattle.reader.specs.Packet.{captionLength}
+use Rattle.reader.specs.Packet.{captionLength, refusedPacket}
 use Rattle.values.specs.Answer.{done}
 use Rattle.reader.proofs.PacketReads.{captionsAsked, cc-data-is, cc-data-near, cc-data-refused, closing-near, closing-refused, header-is, header-refused, headerShown, servicesAsked, packet-whole, servicesShown, svc-info-is, svc-info-near, svc-info-refused, time-code-is, time-code-refused, timeAsked, timeShown}
 use borrow.Author.Needs.{needs}
@@ -110,7 +110,8 @@ returns-3 : tie.Need-returns-3
 returns-3 c =
     let e = rw (header-result (c .before .before .before .before .before .before .before .before .before .before), time-code-result (c .before .before .before .before .before)) at (c .before .before .before .cc-data .ensures) in
     c .refused3 .ensures
-    ∙ rw e (cc-data-refused _ (header-kept (c .before .before .before .before .before .before .before .before .before .before)) (time-code-kept (c .before .before .before .before .before)) (rw e at (sym (c .before .before .is-done3 .ensures) ∙ not-true _ (c .before .if3 .taken))))
+    ∙ ap refusedPacket e
+    ∙ cc-data-refused _ (header-kept (c .before .before .before .before .before .before .before .before .before .before)) (time-code-kept (c .before .before .before .before .before)) (rw e at (sym (c .before .before .is-done3 .ensures) ∙ not-true _ (c .before .if3 .taken)))
 
 add-svc-info-at : tie.Need-add-svc-info-at
 add-svc-info-at c = rw (time-code-result (c .before .before .before .before .before), cc-data-result (c .before)) (omega (arith, svc-info-near (packet3 (c .before))))
@@ -154,8 +155,9 @@ returns-5 c =
     let s = c .before .before .before .before .before in
     let e = rw (header-result (s .before .before .before .before .before .before .before .before .before .before .before .before .before .before), time-code-result (s .before .before .before .before .before .before .before .before .before), cc-data-result (s .before .before .before .before .before), svc-info-result s) at (c .before .before .before .closing .ensures) in
     c .refused5 .ensures
-    ∙ rw e (closing-refused _ (header-kept (s .before .before .before .before .before .before .before .before .before .before .before .before .before .before)) (time-code-kept (s .before .before .before .before .before .before .before .before .before)) (cc-data-kept (s .before .before .before .before .before)) (svc-info-kept s)
-    (rw e at (sym (c .before .before .is-done5 .ensures) ∙ not-true _ (c .before .if5 .taken))))
+    ∙ ap refusedPacket e
+    ∙ closing-refused _ (header-kept (s .before .before .before .before .before .before .before .before .before .before .before .before .before .before)) (time-code-kept (s .before .before .before .before .before .before .before .before .before)) (cc-data-kept (s .before .before .before .before .before)) (svc-info-kept s)
+    (rw e at (sym (c .before .before .is-done5 .ensures) ∙ not-true _ (c .before .if5 .taken)))
 
 cast-t19 : tie.Need-cast-t19
 cast-t19 c = rw (time-code-result (c .before .before .before .before .before .before .before .before .before .before .before .before .before .before .before .before)) (omega (arith, cc-data-near (packet2 (c .before .before .before .before .before .before .before .before .before .before .before .before .before .before .before .before))))
