@@ -1,19 +1,21 @@
--- Where all of rule 8 is kept, the walk has come to a footer: as many turns as the packet has bytes are enough.
+-- Where rules 8 and 9 are kept: the walk has come to a footer, so that as many turns as the packet has bytes are enough,
+-- and the footer has its checksum.
 -- Assumes nothing.
 use mathlib.Core.Bool.{Bool, true, false, cond, _&&_}
 use mathlib.Core.List.{List, [], _∷_, _++_}
-use mathlib.Core.Path.{_≡_, refl}
+use mathlib.Core.Path.{_≡_, _∙_, sym, refl}
 use Prim.Native.Nat.{ℕ, zero, suc, _+_, _≤_}
 use native.Mathlib.Omega.{arith}
 use borrow.Author.Tests.{eqb-true, leb-true}
 use lib.Dec.{eqb, leb}
 use lib.ListN.{length}
-use Rattle.values.proofs.Verdicts.{kept-first, kept-rest}
-use Rattle.values.specs.Answer.{WrongMagic}
+use Rattle.values.proofs.Verdicts.{and-second, kept-first, kept-rest, verdict-append}
+use Rattle.values.specs.Answer.{ChecksumFailed, SequenceCountMismatch, WrongMagic}
 use Rattle.values.specs.Bytes.{byte}
 use Rattle.values.specs.Check.{Check, check, clear, verdict}
+use Rattle.values.specs.Sequence.{sequenceOf}
 use Rattle.sections.specs.Section.{sizeCheck}
-use Rattle.footer.specs.Footer.{footerFrom, futureChecks, futureChecksAt, futureLength}
+use Rattle.footer.specs.Footer.{checksumOf, closingChecks, footerFrom, futureChecks, futureChecksAt, futureLength}
 
 -- the two that are kept of a future section: the size of what stands behind it, and the checks from there on
 module _ (p : List ℕ) (i : ℕ) (behind : List Check) (h : verdict (futureChecksAt p i ++ behind) ≡ clear) where
@@ -51,3 +53,18 @@ module _ (p : List ℕ) where
   footer-found zero i enough fits h = absurd (omega arith)
   footer-found (suc turns) i enough fits h =
       turn (eqb (byte p i) 0x74) turns i refl (λ a b. footer-found turns (i + 2 + futureLength p i) (omega arith) a b) h
+
+-- an accepted footer has its checksum
+pub checksum-kept : (p : List ℕ) (sequence i : ℕ) → verdict (closingChecks p sequence i) ≡ clear
+    → byte p (footerFrom (length p) p i + 3) ≡ checksumOf p
+unfolding closingChecks
+checksum-kept p sequence i h =
+    let f : ℕ = footerFrom (length p) p i in
+    let size : Check = sizeCheck p (f + 4) in
+    let same : Check = check (eqb (sequenceOf (byte p (f + 1)) (byte p (f + 2))) sequence) SequenceCountMismatch in
+    let sum : Check = check (eqb (byte p (f + 3)) (checksumOf p)) ChecksumFailed in
+    let future : List Check = futureChecks (length p) p i in
+    let footer : verdict (size ∷ same ∷ sum ∷ []) ≡ clear =
+    and-second (verdict future) (verdict (size ∷ same ∷ sum ∷ []))
+    (sym (verdict-append future (size ∷ same ∷ sum ∷ [])) ∙ kept-rest (sizeCheck p (i + 2)) (future ++ size ∷ same ∷ sum ∷ []) h) in
+    eqb-true _ _ (kept-first sum [] (kept-rest same (sum ∷ []) (kept-rest size (same ∷ sum ∷ []) footer)))

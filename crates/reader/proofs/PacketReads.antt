@@ -8,7 +8,7 @@ use native.Mathlib.Omega.{arith}
 use borrow.Author.Tests.{eqb-true}
 use lib.Dec.{eqb}
 use lib.ListN.{length}
-use Rattle.values.proofs.Verdicts.{andThen, broken-not-clear, done-clear, kept-first, kept-rest, refused-stays, verdict-append}
+use Rattle.values.proofs.Verdicts.{and-first, and-second, andThen, done-clear, kept-first, kept-rest, refused-stays, verdict-append}
 use Rattle.values.specs.Answer.{LengthMismatch, UnknownFramerate, WrongMagic, done}
 use Rattle.values.specs.Bytes.{byte}
 use Rattle.values.specs.Packet.{leastSize}
@@ -39,15 +39,6 @@ given-refused : (v : Verdict) (k length : ℕ) (s : CDPParser) (at : ℕ)
     → eqb (answer v k .number) 0 ≡ false → refusedPacket (answer v k) ≡ given v length s at
 given-refused clear k length s at h = absurd (true≢false h)
 given-refused (broken why) k length s at h = refl
-
--- of two verdicts one after the other that are clear, both are
-and-first : (v w : Verdict) → andThen v w ≡ clear → v ≡ clear
-and-first clear w h = refl
-and-first (broken why) w h = h
-
-and-second : (v w : Verdict) → andThen v w ≡ clear → w ≡ clear
-and-second clear w h = h
-and-second (broken why) w h = absurd (broken-not-clear why h)
 
 -- five lists of checks, one after the other
 five-parts : (a b c d e : List Check)
@@ -237,7 +228,7 @@ module _ (p : List ℕ) where
         unfolding closingRead packetRead shownBy
         packet-whole h = ap (λ (v : Verdict). given v (captionLength p) (shownBy p) (ccDataAt p)) (sym (behind-svc-info ∙ done-clear closing 0 h))
 
-  -- the parts of an accepted packet: its size is the one that it says, and its captions are clear
+  -- the parts of an accepted packet: its size is the one that it says, and captions and footer are clear
   pub size-of-packet : verdict (packetChecks p) ≡ clear → byte p 2 ≡ length p
   size-of-packet h =
       let size : Check = check (eqb (byte p 2) (length p)) (LengthMismatch (byte p 2) (length p)) in
@@ -247,6 +238,9 @@ module _ (p : List ℕ) where
 
   pub cc-data-of-packet : verdict (packetChecks p) ≡ clear → ccData ≡ clear
   cc-data-of-packet h = and-first _ _ (and-second timeCode _ (and-second header _ (sym in-order ∙ h)))
+
+  pub closing-of-packet : verdict (packetChecks p) ≡ clear → closing ≡ clear
+  closing-of-packet h = and-second svcInfo _ (and-second ccData _ (and-second timeCode _ (and-second header _ (sym in-order ∙ h))))
 
   -- the places fit a byte
   pub cc-data-near : ccDataAt p ≤ 12

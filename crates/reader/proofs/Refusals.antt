@@ -16,10 +16,13 @@ use Rattle.values.specs.Bytes.{byte, over}
 use Rattle.values.specs.Check.{Check, Verdict, answer, broken, check, clear, ifClear, verdict}
 use Rattle.values.specs.Rate.{noRate}
 use Rattle.values.specs.Time.{timeAbsent}
+use Rattle.footer.proofs.FooterFound.{checksum-kept}
+use Rattle.footer.specs.Footer.{checksumOf}
+use Rattle.sections.specs.Header.{sequenceIn}
 use Rattle.reader.proofs.Answers.{fine, not-eleven, packet-fine}
-use Rattle.reader.proofs.PacketReads.{size-of-packet}
+use Rattle.reader.proofs.PacketReads.{closing-of-packet, size-of-packet}
 use Rattle.reader.proofs.ReaderReads.{captions-long}
-use Rattle.reader.specs.Packet.{captionLength, packetChecks, shownBy}
+use Rattle.reader.specs.Packet.{captionLength, closingAt, footerAt, packetChecks, shownBy}
 use Rattle.reader.specs.Reader.{bufferAfter, captionRoom, captionsOf, cleared, read, readChecks}
 use Rattle.reader.specs.declared.parser.CDPParser.{CDPParser}
 use Rattle.reader.specs.declared.parser.CDPParserRead.{CDPParserRead}
@@ -52,6 +55,13 @@ refused-unless (broken why) length h = refused-not-done why
 -- rule 1, as the first of the reader's checks
 abbrev roomCheck : ℕ → Check
 roomCheck room = check (leb captionRoom room) (BufferTooShort captionRoom room)
+
+keeps : (enough : Bool) (v : Verdict) (room length : ℕ) (shown s : CDPParser)
+    → eqb (gives enough v room length shown s .answer .number) 0 ≡ false
+    → gives enough v room length shown s .parser .«service_info» ≡ s .«service_info»
+keeps false v room length shown s h = refl
+keeps true clear room length shown s h = absurd (true≢false h)
+keeps true (broken why) room length shown s h = refl
 
 module _ (s : CDPParser) (p buffer : List ℕ) where
   -- what reading this packet with this caption buffer gives
@@ -94,6 +104,23 @@ module _ (s : CDPParser) (p buffer : List ℕ) where
   long-refused a b =
       refused-unless (verdict (readChecks p (length buffer))) (captionLength p)
       (λ h. let s = size-of-packet p (kept-rest (roomCheck (length buffer)) (packetChecks p) h) in omega (arith, a, b, s))
+
+  -- no service list comes from a refused packet, whatever the refusal
+  pub list-only-from-accepted : eqb (given .answer .number) 0 ≡ false → given .parser .«service_info» ≡ s .«service_info»
+  unfolding read
+  list-only-from-accepted h =
+      keeps (leb captionRoom (length buffer)) (verdict (packetChecks p)) (length buffer) (captionLength p) (shownBy p) s h
+
+  -- a packet with another checksum than rule 9's is refused, and so none comes from it
+  module _ (wrong : byte p (footerAt p + 3) ≡ checksumOf p → ⊥) where
+    pub bad-checksum-refused : eqb (given .answer .number) 0 ≡ false
+    unfolding read
+    bad-checksum-refused =
+        refused-unless (verdict (readChecks p (length buffer))) (captionLength p)
+        (λ h. wrong (checksum-kept p (sequenceIn p) (closingAt p) (closing-of-packet p (kept-rest (roomCheck (length buffer)) (packetChecks p) h))))
+
+    pub no-list-from-bad-checksum : given .parser .«service_info» ≡ s .«service_info»
+    no-list-from-bad-checksum = list-only-from-accepted bad-checksum-refused
 
   -- answer and state do not depend on what is in the buffer, nor on its length from 95 on
   pub same-with-any-buffer : (other : List ℕ) → 95 ≤ length buffer → 95 ≤ length other → given ≡ read s p (length other)

@@ -1,12 +1,13 @@
 -- Rules 2 to 9, in their order: the places in a packet, its checks, and what it shows.
 use mathlib.Core.List.{List, _++_}
 use Prim.Native.Nat.{ℕ, _+_}
+use lib.ListN.{length}
 use Rattle.values.specs.Check.{Check, verdict, answer, ifClear}
 use Rattle.values.specs.Rate.{noRate}
 use Rattle.values.specs.Time.{timeAbsent}
 use Rattle.services.specs.ServiceList.{listAbsent}
 use Rattle.sections.specs.CcData.{ccDataChecks, ccDataSize}
-use Rattle.footer.specs.Footer.{closingChecks}
+use Rattle.footer.specs.Footer.{closingChecks, footerFrom}
 use Rattle.sections.specs.Header.{headerChecks, rateOf, flagsIn, sequenceIn}
 use Rattle.sections.specs.Section.{when, sizeWhen}
 use Rattle.svc_section.specs.SvcInfo.{svcInfoChecks, svcInfoSize, svcInfoOf}
@@ -34,6 +35,10 @@ svcInfoAt p = ccDataAt p + captionLength p
 
 abbrev pub closingAt : List ℕ → ℕ
 closingAt p = svcInfoAt p + sizeWhen (flagsIn p .«svc_info») (svcInfoSize p (svcInfoAt p))
+
+-- where the footer stands
+abbrev pub footerAt : List ℕ → ℕ
+footerAt p = footerFrom (length p) p (closingAt p)
 
 -- rules 2 to 9, one after the other
 unfoldable pub packetChecks : List ℕ → List Check

@@ -69,7 +69,7 @@ pub done-value : {A : Type 0} (v : Verdict) (k : ℕ) (value other : A)
 done-value clear k value other h = refl
 done-value (broken why) k value other h = absurd (false≢true (sym (refused-not-done why) ∙ h))
 
-pub broken-not-clear : (why : Refusal) → broken why ≡ clear → ⊥
+broken-not-clear : (why : Refusal) → broken why ≡ clear → ⊥
 broken-not-clear why h = true≢false (ap (λ (v : Verdict). ifClear v false true) h)
 
 first : (kept : Bool) (v : Verdict) (why : Refusal) → cond kept v (broken why) ≡ clear → kept ≡ true
@@ -86,3 +86,12 @@ kept-first c cs h = first (c .kept) (verdict cs) (c .refusal) h
 
 pub kept-rest : (c : Check) (cs : List Check) → verdict (c ∷ cs) ≡ clear → verdict cs ≡ clear
 kept-rest c cs h = rest (c .kept) (verdict cs) (c .refusal) h
+
+-- of two verdicts one after the other that are clear, both are
+pub and-first : (v w : Verdict) → andThen v w ≡ clear → v ≡ clear
+and-first clear w h = refl
+and-first (broken why) w h = h
+
+pub and-second : (v w : Verdict) → andThen v w ≡ clear → w ≡ clear
+and-second clear w h = h
+and-second (broken why) w h = absurd (broken-not-clear why h)
