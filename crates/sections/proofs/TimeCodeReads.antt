@@ -12,7 +12,7 @@ use Rattle.values.specs.Answer.{LengthMismatch, WrongMagic, done, refused}
 use Rattle.values.specs.Bytes.{byte}
 use Rattle.values.specs.Check.{Verdict, answer, ifClear, verdict}
 use Rattle.values.specs.Time.{noTime, timeAbsent, timeChecks, timePresent, timeRead}
-use Rattle.sections.specs.TimeCode.{refusedTimeCode, timeCodeIn, timeCodeRead}
+use Rattle.sections.specs.TimeCode.{noTimeCode, timeCodeIn, timeCodeRead}
 use Rattle.sections.specs.declared.time_code.TimeCodeSection.{TimeCodeSection}
 use Rattle.values.specs.declared.answer.Answer.{Answer}
 use Rattle.values.specs.declared.time_code.MaybeTimeCode.{MaybeTimeCode}
@@ -29,17 +29,17 @@ module _ (p : List ℕ) (i : ℕ) where
   abbrev fourVerdict : Verdict
   fourVerdict = verdict (timeChecks (byte p (i + 1)) (byte p (i + 2)) (byte p (i + 3)) (byte p (i + 4)))
 
-  pub not-there : (present : Bool) → present ≡ false → refusedTimeCode (done 0) ≡ timeCodeRead p present i
+  pub not-there : (present : Bool) → present ≡ false → noTimeCode (done 0) ≡ timeCodeRead p present i
   unfolding timeCodeRead
   not-there present a = simp a
 
   module _ (present : Bool) (there : present ≡ true) where
-    pub too-short : length p < i + 5 → refusedTimeCode (refused (LengthMismatch (i + 5) (length p))) ≡ timeCodeRead p present i
+    pub too-short : length p < i + 5 → noTimeCode (refused (LengthMismatch (i + 5) (length p))) ≡ timeCodeRead p present i
     unfolding timeCodeRead
     too-short a = simp (there, lt-leb _ _ a)
 
     module _ (long : i + 5 ≤ length p) where
-      pub other-id : (byte p i ≡ 0x71 → ⊥) → refusedTimeCode (refused WrongMagic) ≡ timeCodeRead p present i
+      pub other-id : (byte p i ≡ 0x71 → ⊥) → noTimeCode (refused WrongMagic) ≡ timeCodeRead p present i
       unfolding timeCodeRead
       other-id a = simp (there, le-leb _ _ long, ne-eqb _ _ a)
 
@@ -48,7 +48,7 @@ module _ (p : List ℕ) (i : ℕ) where
         unfolding timeCodeRead
         as-section = simp (there, le-leb _ _ long, eq-eqb _ _ id)
 
-        pub bytes-wrong : eqb (fourRead .answer .number) 0 ≡ false → refusedTimeCode (fourRead .answer) ≡ timeCodeRead p present i
+        pub bytes-wrong : eqb (fourRead .answer .number) 0 ≡ false → noTimeCode (fourRead .answer) ≡ timeCodeRead p present i
         unfolding timeRead
         bytes-wrong h = refused-shows section fourVerdict 0 5 _ _ h ∙ as-section
 

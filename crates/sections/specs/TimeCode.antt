@@ -45,6 +45,6 @@ timeCodeRead p present i =
       «time_code» = ifClear v (timeCodeOf p present i) timeAbsent;
     }
 
--- a refusal shows no time code
-abbrev pub refusedTimeCode : Answer → TimeCodeSection
-refusedTimeCode a = record { answer = a; «time_code» = timeAbsent }
+-- a refusal shows no time code, nor does a packet without the section
+abbrev pub noTimeCode : Answer → TimeCodeSection
+noTimeCode a = record { answer = a; «time_code» = timeAbsent }

@@ -1,4 +1,4 @@
-// The parts of a packet, each read by itself: the blocks of CDPParser::parse in parser.rs of the Rust.
+// Header, time code and captions of a packet, each read by itself: blocks of CDPParser::parse in the Rust.
 mod captions;
 mod header;
 mod time_code;

@@ -2,7 +2,7 @@
 ghost use mathlib.Core.Path.{_≡_};
 ghost use Prim.Native.Nat.{_+_, _≤_};
 ghost use lib.ListN.{length};
-ghost use Rattle.sections.specs.TimeCode.{fourBehind, timeCodeRead, refusedTimeCode};
+ghost use Rattle.sections.specs.TimeCode.{fourBehind, noTimeCode, timeCodeRead};
 use values::Answer;
 use values::MaybeTimeCode;
 use values::Packet;
@@ -17,8 +17,9 @@ pub struct TimeCodeSection {
 impl TimeCodeSection {
     const SIZE: usize = 5;
 
-    fn refused(answer: Answer) -> Self
-        ensures { λ r. ⌜ r ≡ refusedTimeCode answer ⌝ }
+    // No time code, with this answer.
+    fn without(answer: Answer) -> Self
+        ensures { λ r. ⌜ r ≡ noTimeCode answer ⌝ }
     {
         Self {
             answer,
@@ -31,23 +32,20 @@ impl TimeCodeSection {
         ensures { λ r. ⌜ r ≡ timeCodeRead (now (packet .entry)) present at ⌝ }
     {
         if !present {
-            return Self {
-                answer: Answer::done(0),
-                time_code: MaybeTimeCode::ABSENT,
-            };
+            return Self::without(Answer::done(0));
         }
         let size = packet.len();
         let i = at as usize;
         if size < i + Self::SIZE {
-            return Self::refused(Answer::length_mismatch(i + Self::SIZE, size));
+            return Self::without(Answer::length_mismatch(i + Self::SIZE, size));
         }
         if packet[i] != Packet::TIME_CODE_ID {
-            return Self::refused(Answer::WRONG_MAGIC);
+            return Self::without(Answer::WRONG_MAGIC);
         }
         let read = TimeCode::parse(four_behind(packet, i));
         let answer = read.answer;
         if !answer.is_done() {
-            return Self::refused(answer);
+            return Self::without(answer);
         }
         let time_code = read.time_code;
         Self {

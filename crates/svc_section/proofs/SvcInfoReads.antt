@@ -14,7 +14,7 @@ use Rattle.values.specs.Bytes.{byte, part}
 use Rattle.values.specs.Check.{Check, Verdict, answer, check, clear, ifClear, verdict}
 use Rattle.services.specs.Section.{listOf, sectionChecks, sectionRead}
 use Rattle.services.specs.ServiceList.{empty, listAbsent, listPresent}
-use Rattle.svc_section.specs.SvcInfo.{refusedSvcInfo, sameFlags, svcInfoRead}
+use Rattle.svc_section.specs.SvcInfo.{noSvcInfo, sameFlags, svcInfoRead}
 use Rattle.svc_section.specs.declared.svc_info.SvcInfoSection.{SvcInfoSection}
 use Rattle.services.specs.declared.list.MaybeServiceInfo.{MaybeServiceInfo}
 use Rattle.services.specs.declared.list.ServiceInfo.{ServiceInfo}
@@ -66,22 +66,22 @@ module _ (p : List ℕ) (f : Flags) (i : ℕ) where
   abbrev flagsCheck : Check
   flagsCheck = check (sameFlags (listOf bytes) f) ServiceFlagsMismatched
 
-  pub not-there : f .«svc_info» ≡ false → refusedSvcInfo (done 0) ≡ svcInfoRead p f i
+  pub not-there : f .«svc_info» ≡ false → noSvcInfo (done 0) ≡ svcInfoRead p f i
   unfolding svcInfoRead
   not-there a = simp a
 
   module _ (there : f .«svc_info» ≡ true) where
-    pub too-short : length p < i + 2 → refusedSvcInfo (refused (LengthMismatch (i + 2) (length p))) ≡ svcInfoRead p f i
+    pub too-short : length p < i + 2 → noSvcInfo (refused (LengthMismatch (i + 2) (length p))) ≡ svcInfoRead p f i
     unfolding svcInfoRead
     too-short a = simp (there, lt-leb _ _ a)
 
     module _ (long : i + 2 ≤ length p) where
-      pub other-id : (byte p i ≡ 0x73 → ⊥) → refusedSvcInfo (refused WrongMagic) ≡ svcInfoRead p f i
+      pub other-id : (byte p i ≡ 0x73 → ⊥) → noSvcInfo (refused WrongMagic) ≡ svcInfoRead p f i
       unfolding svcInfoRead
       other-id a = simp (there, le-leb _ _ long, ne-eqb _ _ a)
 
       module _ (id : byte p i ≡ 0x73) where
-        pub entries-cut : length p < i + size → refusedSvcInfo (refused (LengthMismatch (i + size) (length p))) ≡ svcInfoRead p f i
+        pub entries-cut : length p < i + size → noSvcInfo (refused (LengthMismatch (i + size) (length p))) ≡ svcInfoRead p f i
         unfolding svcInfoRead
         entries-cut a = simp (there, le-leb _ _ long, eq-eqb _ _ id, as-count, lt-leb _ _ a)
 
@@ -93,7 +93,7 @@ module _ (p : List ℕ) (f : Flags) (i : ℕ) where
               ap (λ (v : Verdict). shown v size (listOf bytes)) (sym (verdict-append (sectionChecks bytes) (flagsCheck ∷ [])))
               ∙ simp (there, le-leb _ _ long, eq-eqb _ _ id, as-count, as-size, le-leb _ _ fits)
 
-          pub section-refused : eqb (sectionRead bytes .answer .number) 0 ≡ false → refusedSvcInfo (sectionRead bytes .answer) ≡ svcInfoRead p f i
+          pub section-refused : eqb (sectionRead bytes .answer .number) 0 ≡ false → noSvcInfo (sectionRead bytes .answer) ≡ svcInfoRead p f i
           unfolding sectionRead
           section-refused h =
               refused-shows section (verdict (sectionChecks bytes)) 0 size (listPresent (listOf bytes)) listAbsent h
@@ -109,7 +109,7 @@ module _ (p : List ℕ) (f : Flags) (i : ℕ) where
             unfolding sectionRead
             the-list = done-value (verdict (sectionChecks bytes)) 0 (listOf bytes) empty kept
 
-            pub other-flags : sameFlags (sectionRead bytes .list) f ≡ false → refusedSvcInfo (refused ServiceFlagsMismatched) ≡ svcInfoRead p f i
+            pub other-flags : sameFlags (sectionRead bytes .list) f ≡ false → noSvcInfo (refused ServiceFlagsMismatched) ≡ svcInfoRead p f i
             other-flags h =
                 let differ : sameFlags (listOf bytes) f ≡ false = rw the-list at h in
                 simp (alone, differ) at as-parts

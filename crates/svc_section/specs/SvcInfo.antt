@@ -53,6 +53,6 @@ svcInfoRead p f i =
       «service_info» = ifClear v (svcInfoOf p f i) listAbsent;
     }
 
--- a refusal shows no list
-abbrev pub refusedSvcInfo : Answer → SvcInfoSection
-refusedSvcInfo a = record { answer = a; «service_info» = listAbsent }
+-- a refusal shows no list, nor does a packet without the section
+abbrev pub noSvcInfo : Answer → SvcInfoSection
+noSvcInfo a = record { answer = a; «service_info» = listAbsent }

@@ -1,6 +1,6 @@
 // Rule 7: the service section.
 ghost use mathlib.Core.Path.{_≡_};
-ghost use Rattle.svc_section.specs.SvcInfo.{sameFlags, svcInfoRead, refusedSvcInfo};
+ghost use Rattle.svc_section.specs.SvcInfo.{noSvcInfo, sameFlags, svcInfoRead};
 use services::MaybeServiceInfo;
 use services::ServiceInfo;
 use values::Answer;
@@ -16,7 +16,7 @@ pub struct SvcInfoSection {
 impl SvcInfoSection {
     // No list, with this answer.
     fn without(answer: Answer) -> Self
-        ensures { λ r. ⌜ r ≡ refusedSvcInfo answer ⌝ }
+        ensures { λ r. ⌜ r ≡ noSvcInfo answer ⌝ }
     {
         let service_info = MaybeServiceInfo::absent();
         Self {

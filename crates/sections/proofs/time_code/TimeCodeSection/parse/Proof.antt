@@ -11,8 +11,11 @@ use Rattle.sections.proofs.time_code.TimeCodeSection.parse.Tie as tie
 done-requires : tie.Need-done-requires
 done-requires c κs = search needs
 
+without-requires : tie.Need-without-requires
+without-requires c κs = search needs
+
 returns : tie.Need-returns
-returns c = rw (c .done .ensures) (not-there _ _ _ (not-true _ (c .before .if1 .taken)))
+returns c = c .without .ensures ∙ rw (c .before .done .ensures) (not-there _ _ _ (not-true _ (c .before .before .if1 .taken)))
 
 add-if2 : tie.Need-add-if2
 add-if2 c = search needs
@@ -23,20 +26,20 @@ add-length-mismatch c = search needs
 length-mismatch-requires : tie.Need-length-mismatch-requires
 length-mismatch-requires c κs = search needs
 
-refused-requires : tie.Need-refused-requires
-refused-requires c κs = search needs
+without-requires-2 : tie.Need-without-requires-2
+without-requires-2 c κs = search needs
 
 returns-2 : tie.Need-returns-2
-returns-2 c = c .refused .ensures ∙ rw (c .before .length-mismatch .ensures) (too-short _ _ _ (not-false _ (c .before .before .before .if1 .left)) (omega arith))
+returns-2 c = c .without2 .ensures ∙ rw (c .before .length-mismatch .ensures) (too-short _ _ _ (not-false _ (c .before .before .before .if1 .left)) (omega arith))
 
 shared-slice-read-if3 : tie.Need-shared-slice-read-if3
 shared-slice-read-if3 c = search needs
 
-refused-requires-2 : tie.Need-refused-requires-2
-refused-requires-2 c κs = search needs
+without-requires-3 : tie.Need-without-requires-3
+without-requires-3 c κs = search needs
 
 returns-3 : tie.Need-returns-3
-returns-3 c = c .refused2 .ensures ∙ other-id _ _ _ (not-false _ (c .before .before .before .before .if1 .left)) (omega arith) (λ h. omega arith)
+returns-3 c = c .without3 .ensures ∙ other-id _ _ _ (not-false _ (c .before .before .before .before .if1 .left)) (omega arith) (λ h. omega arith)
 
 four-behind-requires : tie.Need-four-behind-requires
 four-behind-requires c κs = search needs
@@ -47,14 +50,14 @@ parse-requires c κs = search needs
 is-done-requires : tie.Need-is-done-requires
 is-done-requires c κs = search needs
 
-refused-requires-3 : tie.Need-refused-requires-3
-refused-requires-3 c κs = search needs
+without-requires-4 : tie.Need-without-requires-4
+without-requires-4 c κs = search needs
 
 returns-4 : tie.Need-returns-4
 returns-4 c =
     let e = rw (c .before .before .before .before .before .four-behind .ensures) at (c .before .before .before .before .parse .ensures) in
     let wrong = rw e at (sym (c .before .before .is-done .ensures) ∙ not-true _ (c .before .if4 .taken)) in
-    c .refused3 .ensures ∙ rw e (bytes-wrong _ _ _ (not-false _ (c .before .before .before .before .before .before .before .before .before .if1 .left)) (omega arith) (omega arith) wrong)
+    c .without4 .ensures ∙ rw e (bytes-wrong _ _ _ (not-false _ (c .before .before .before .before .before .before .before .before .before .if1 .left)) (omega arith) (omega arith) wrong)
 
 done-requires-2 : tie.Need-done-requires-2
 done-requires-2 c κs = search needs
@@ -70,19 +73,20 @@ parse-spec =
     tie.close
     (tie.spec
     done-requires
+    without-requires
     returns
     add-if2
     add-length-mismatch
     length-mismatch-requires
-    refused-requires
+    without-requires-2
     returns-2
     shared-slice-read-if3
-    refused-requires-2
+    without-requires-3
     returns-3
     four-behind-requires
     parse-requires
     is-done-requires
-    refused-requires-3
+    without-requires-4
     returns-4
     done-requires-2
     returns-5)
