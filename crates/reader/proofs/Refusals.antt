@@ -80,7 +80,7 @@ module _ (s : CDPParser) (p buffer : List ℕ) where
   eleven-changes-nothing h =
       eleven (leb captionRoom (length buffer)) (verdict (packetChecks p)) (length buffer) (captionLength p) (shownBy p) s (packet-fine p) (eq-eqb _ _ h)
 
-  -- any other refusal clears rate, time code and sequence, and keeps the service list and whether there is one
+  -- any other refusal clears rate, time code and sequence
   module _ (refusal : eqb (given .answer .number) 0 ≡ false) (other : eqb (given .answer .number) 11 ≡ false) where
     refusal-clears : given .parser ≡ cleared s
     unfolding read
@@ -95,9 +95,6 @@ module _ (s : CDPParser) (p buffer : List ℕ) where
     pub refusal-clears-sequence : given .parser .sequence ≡ 0
     refusal-clears-sequence = ap (λ (r : CDPParser). r .sequence) refusal-clears
 
-    pub refusal-keeps-services : given .parser .«service_info» ≡ s .«service_info»
-    refusal-keeps-services = ap (λ (r : CDPParser). r .«service_info») refusal-clears
-
   -- a packet over 255 bytes, which no length byte can say, is refused
   pub long-refused : byte p 2 ≤ 255 → 255 < length p → eqb (given .answer .number) 0 ≡ false
   unfolding read
@@ -105,13 +102,13 @@ module _ (s : CDPParser) (p buffer : List ℕ) where
       refused-unless (verdict (readChecks p (length buffer))) (captionLength p)
       (λ h. let s = size-of-packet p (kept-rest (roomCheck (length buffer)) (packetChecks p) h) in omega (arith, a, b, s))
 
-  -- no service list comes from a refused packet, whatever the refusal
+  -- no refusal, 11 or another, changes the service list or whether there is one
   pub list-only-from-accepted : eqb (given .answer .number) 0 ≡ false → given .parser .«service_info» ≡ s .«service_info»
   unfolding read
   list-only-from-accepted h =
       keeps (leb captionRoom (length buffer)) (verdict (packetChecks p)) (length buffer) (captionLength p) (shownBy p) s h
 
-  -- a packet with another checksum than rule 9's is refused, and so none comes from it
+  -- a packet with another checksum than rule 9's is refused, so that no list comes from it
   module _ (wrong : byte p (footerAt p + 3) ≡ checksumOf p → ⊥) where
     pub bad-checksum-refused : eqb (given .answer .number) 0 ≡ false
     unfolding read

@@ -11,17 +11,13 @@ use Rattle.values.specs.Rate.{noRate}
 use Rattle.values.specs.Time.{timeAbsent}
 use Rattle.sections.specs.CcData.{handedOut}
 use Rattle.sections.specs.Header.{flagsIn}
-use Rattle.reader.specs.Packet as Packet
-use Rattle.reader.specs.Packet.{ccDataAt, captionLength, packetChecks, shownBy, state}
+use Rattle.reader.specs.Packet.{ccDataAt, captionLength, fresh, packetChecks, shownBy, state}
 use Rattle.reader.specs.declared.parser.CDPParser.{CDPParser}
 use Rattle.reader.specs.declared.parser.CDPParserRead.{CDPParserRead}
 
 -- the most that a packet can hand out: 2 and three times 31
 abbrev pub captionRoom : ℕ
 captionRoom = 95
-
-abbrev pub fresh : CDPParser
-fresh = Packet.fresh
 
 -- rules 1 to 9
 abbrev pub readChecks : List ℕ → ℕ → List Check

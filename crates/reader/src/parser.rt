@@ -1,6 +1,7 @@
 // The reader: what it shows, and how a packet or a flush changes that.
 ghost use mathlib.Core.Path.{_≡_};
 ghost use lib.ListN.{length};
+ghost use Rattle.reader.specs.Packet.{fresh};
 ghost use Rattle.reader.specs.Reader as Reader;
 use crate::packet::PacketRead;
 use sections::hand_out;
@@ -40,7 +41,7 @@ impl CDPParser {
 
     // A reader that has read nothing.
     pub fn new() -> Self
-        ensures { λ r. ⌜ r ≡ Reader.fresh ⌝ }
+        ensures { λ r. ⌜ r ≡ fresh ⌝ }
     {
         let service_info = MaybeServiceInfo::absent();
         Self {
