@@ -10,14 +10,13 @@ use Rattle.values.proofs.Bools.{and-left, and-right}
 use Rattle.values.specs.Answer as Table
 use Rattle.values.specs.Answer.{Refusal, refused}
 use Rattle.values.specs.Bytes.{byte}
-use Rattle.values.specs.Check.{Check, Verdict, broken, check, clear, verdict}
+use Rattle.values.specs.Check.{Check, Verdict, broken, check, clear, verdict, when}
 use Rattle.values.specs.Mask.{allClear, allSet, x3E, x3F, x80}
 use Rattle.values.specs.Packet.{footerId}
 use Rattle.services.specs.Section.{checksAt, countOf, entryListChecks, listOf, sectionChecks}
 use Rattle.sections.specs.CcData.{ccDataChecks}
 use Rattle.footer.specs.Footer.{closingChecks, footerChecks, footerFrom, futureChecks, futureChecksAt, futureLength}
 use Rattle.sections.specs.Header.{flagsIn, sequenceIn}
-use Rattle.sections.specs.Section.{when}
 use Rattle.svc_section.specs.SvcInfo.{sameFlags, svcInfoBytes, svcInfoChecks}
 use Rattle.sections.specs.TimeCode.{timeCodeChecks}
 use Rattle.reader.specs.Packet.{ccDataAt, closingAt, packetChecks, svcInfoAt}

@@ -16,11 +16,11 @@ use Rattle.values.specs.Rate.{noRate}
 use Rattle.values.specs.Flags.{noFlags}
 use Rattle.values.specs.Time.{timeAbsent}
 use Rattle.services.specs.ServiceList.{listAbsent}
-use Rattle.values.specs.Check.{Check, Verdict, answer, broken, check, clear, ifClear, verdict}
+use Rattle.values.specs.Check.{Check, Verdict, answer, broken, check, clear, ifClear, sizeWhen, verdict, when}
 use Rattle.sections.specs.CcData.{ccDataChecks, ccDataRead, ccDataSize}
 use Rattle.footer.specs.Footer.{closingChecks, closingRead}
 use Rattle.sections.specs.Header.{flagsIn, headerChecks, headerRead, rateOf, sequenceIn}
-use Rattle.sections.specs.Section.{sizeCheck, sizeWhen, when}
+use Rattle.sections.specs.Section.{sizeCheck}
 use Rattle.svc_section.specs.SvcInfo.{svcInfoChecks, svcInfoOf, svcInfoRead, svcInfoSize}
 use Rattle.sections.specs.TimeCode.{timeCodeChecks, timeCodeOf, timeCodeRead}
 use Rattle.reader.specs.Packet.{captionLength, ccDataAt, closingAt, fresh, packetChecks, packetRead, refusedPacket, shownBy, state, svcInfoAt}

@@ -11,11 +11,10 @@ use lib.ListN.{length}
 use Rattle.values.proofs.Verdicts.{done-clear, refused-shows}
 use Rattle.values.specs.Answer.{BufferTooShort, refused}
 use Rattle.values.specs.Bytes.{over}
-use Rattle.values.specs.Check.{Check, Verdict, answer, clear, ifClear, verdict}
+use Rattle.values.specs.Check.{Check, Verdict, answer, clear, ifClear, sizeWhen, verdict, when}
 use Rattle.sections.proofs.CcDataReads.{captions-there, handed-long, handed-over, nothing-out}
 use Rattle.sections.specs.CcData.{ccDataChecks, ccDataSize, handOut, handedOut}
 use Rattle.sections.specs.Header.{flagsIn}
-use Rattle.sections.specs.Section.{sizeWhen, when}
 use Rattle.reader.proofs.PacketReads.{cc-data-of-packet}
 use Rattle.reader.specs.Packet.{captionLength, ccDataAt, fresh, packetChecks, packetRead, shownBy}
 use Rattle.reader.specs.Reader.{bufferAfter, captionsOf, cleared, read}

@@ -2,14 +2,13 @@
 use mathlib.Core.List.{List, _++_}
 use Prim.Native.Nat.{ℕ, _+_}
 use lib.ListN.{length}
-use Rattle.values.specs.Check.{Check, verdict, answer, ifClear}
+use Rattle.values.specs.Check.{Check, when, sizeWhen, verdict, answer, ifClear}
 use Rattle.values.specs.Rate.{noRate}
 use Rattle.values.specs.Time.{timeAbsent}
 use Rattle.services.specs.ServiceList.{listAbsent}
 use Rattle.sections.specs.CcData.{ccDataChecks, ccDataSize}
 use Rattle.footer.specs.Footer.{closingChecks, footerFrom}
 use Rattle.sections.specs.Header.{headerChecks, rateOf, flagsIn, sequenceIn}
-use Rattle.sections.specs.Section.{when, sizeWhen}
 use Rattle.svc_section.specs.SvcInfo.{svcInfoChecks, svcInfoSize, svcInfoOf}
 use Rattle.sections.specs.TimeCode.{timeCodeChecks, timeCodeSize, timeCodeOf}
 use Rattle.reader.specs.declared.packet.PacketRead.{PacketRead}

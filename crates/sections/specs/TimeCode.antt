@@ -5,10 +5,10 @@ use Prim.Native.Nat.{ℕ, _+_}
 use lib.Dec.{eqb}
 use Rattle.values.specs.Answer.{WrongMagic}
 use Rattle.values.specs.Bytes.{byte}
-use Rattle.values.specs.Check.{Check, check, verdict, answer, ifClear}
+use Rattle.values.specs.Check.{Check, check, when, sizeWhen, verdict, answer, ifClear}
 use Rattle.values.specs.Packet.{timeCodeId}
 use Rattle.values.specs.Time.{timeChecks, timeOf, timePresent, timeAbsent}
-use Rattle.sections.specs.Section.{sizeCheck, when, sizeWhen}
+use Rattle.sections.specs.Section.{sizeCheck}
 use Rattle.sections.specs.declared.time_code.TimeCodeSection.{TimeCodeSection}
 use Rattle.values.specs.declared.answer.Answer.{Answer}
 use Rattle.values.specs.declared.time_code.MaybeTimeCode.{MaybeTimeCode}

@@ -5,12 +5,12 @@ use Prim.Native.Nat.{ℕ, _+_}
 use lib.Dec.{eqb}
 use Rattle.values.specs.Answer.{WrongMagic, ServiceFlagsMismatched}
 use Rattle.values.specs.Bytes.{byte, part}
-use Rattle.values.specs.Check.{Check, check, verdict, answer, ifClear}
+use Rattle.values.specs.Check.{Check, check, when, sizeWhen, verdict, answer, ifClear}
 use Rattle.values.specs.Mask.{under, x0F}
 use Rattle.values.specs.Packet.{servicesId}
 use Rattle.services.specs.Section.{sectionChecks, listOf}
 use Rattle.services.specs.ServiceList.{sectionLength, listPresent, listAbsent}
-use Rattle.sections.specs.Section.{sizeCheck, when, sizeWhen}
+use Rattle.sections.specs.Section.{sizeCheck}
 use Rattle.svc_section.specs.declared.svc_info.SvcInfoSection.{SvcInfoSection}
 use Rattle.services.specs.declared.list.MaybeServiceInfo.{MaybeServiceInfo}
 use Rattle.services.specs.declared.list.ServiceInfo.{ServiceInfo}

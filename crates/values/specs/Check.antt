@@ -13,6 +13,13 @@ pub record Check : Type 0 where
 abbrev pub check : Bool → Refusal → Check
 check kept refusal = record { kept = kept; refusal = refusal }
 
+-- the checks and the size of a part that may be there
+abbrev pub when : Bool → List Check → List Check
+when present checks = cond present checks []
+
+abbrev pub sizeWhen : Bool → ℕ → ℕ
+sizeWhen present size = cond present size 0
+
 -- what a list of checks comes to; a refusal is no answer 0 by its type, so no check is broken with "done"
 pub data Verdict : Type 0 where
   clear : Verdict
