@@ -1,7 +1,7 @@
 -- Reading an entry takes back what writing made of it.
 -- Assumes nothing.
 use mathlib.Core.Path.{_≡_, _∙_, refl, ap}
-use mathlib.Core.Bool.{Bool, true, false, cond}
+use mathlib.Core.Bool.{Bool, true, false}
 use mathlib.Core.List.{List, [], _∷_}
 use Prim.Native.Nat.{ℕ, _+_, _-_, _%_, _^_, _≤_}
 use native.Mathlib.Omega.{arith}
@@ -9,15 +9,15 @@ use lib.Dec.{eqb, leb}
 use lib.ListN.{length, take}
 use borrow.Author.Tests.{eq-eqb, ne-eqb, leb-true}
 use Rattle.values.proofs.Bools.{and-left, and-right}
-use Rattle.values.proofs.Verdicts.{andThen, verdict-append}
-use Rattle.values.specs.Answer.{NotWritable, done}
+use Rattle.values.proofs.Verdicts.{kept-first}
+use Rattle.values.specs.Answer.{done}
 use Rattle.values.specs.Bytes.{byte}
-use Rattle.values.specs.Check.{Verdict, verdict, clear, broken}
+use Rattle.values.specs.Check.{verdict, clear}
 use Rattle.values.specs.Mask.{Mask, flag, under, allSet, x80, x40, x3F}
 use Rattle.entries.specs.Entry.{entryChecks, entryOf, entryRead, serviceOf}
 use Rattle.entries.specs.Service.{entry}
-use Rattle.entries.specs.Writing.{writable, kindByte, flagsByte, entryBytes, entryCheck, entryWritten, roomCheck, Written, written}
-use Rattle.entries.proofs.EntryWrites.{done-means, first-bytes}
+use Rattle.entries.specs.Writing.{writable, kindByte, flagsByte, entryBytes, entryCheck, entryWritten, Written}
+use Rattle.entries.proofs.EntryWrites.{first-bytes, room-done}
 use Rattle.entries.specs.declared.entry.ServiceEntry.{ServiceEntry}
 use Rattle.entries.specs.declared.service.DigitalServiceEntry.{DigitalServiceEntry}
 use Rattle.entries.specs.declared.service.FieldOrService.{FieldOrService}
@@ -112,20 +112,12 @@ unfolding entryRead
 entry-back e three h = rw (entry-clear (e .language) (e .service) h, entry-of-back e three h)
 
 -- The same of what the writer leaves in a buffer, where it answers 0: reading as many first bytes as it answers gives the entry.
-entry-parts : (e : ServiceEntry) (buffer : List ℕ)
-    → entryWritten e buffer ≡ written (andThen (verdict (entryCheck e ∷ [])) (verdict (roomCheck 6 buffer ∷ []))) (entryBytes e) buffer
-unfolding entryWritten
-entry-parts e buffer = ap (λ (v : Verdict). written v (entryBytes e) buffer) (verdict-append (entryCheck e ∷ []) (roomCheck 6 buffer ∷ []))
-
-kept-is : (w : Bool) → cond w clear (broken NotWritable) ≡ clear → w ≡ true
-kept-is true h = refl
-kept-is false h = let z : _≡_ {A = ℕ} 0 1 = cc in absurd (omega arith)
-
 pub entry-written-back : (e : ServiceEntry) (buffer : List ℕ) → length (e .language) ≡ 3
     → eqb (entryWritten e buffer .answer .number) 0 ≡ true
     → entryRead (take (entryWritten e buffer .answer .first) (entryWritten e buffer .buffer)) ≡ record { answer = done 0; entry = e }
+unfolding entryWritten
 entry-written-back e buffer three h =
-    let both = done-means (verdict (entryCheck e ∷ [])) (verdict (roomCheck 6 buffer ∷ [])) (entryBytes e) buffer (rw (entry-parts e buffer) at h) in
-    ap (λ (w : Written). entryRead (take (w .answer .first) (w .buffer))) (entry-parts e buffer ∙ both .1)
+    let both = room-done (entryCheck e ∷ []) 6 (entryBytes e) buffer h in
+    ap (λ (w : Written). entryRead (take (w .answer .first) (w .buffer))) (both .1)
     ∙ ap entryRead (first-bytes (entryBytes e) buffer)
-    ∙ entry-back e three (kept-is (writable (e .service)) (both .0))
+    ∙ entry-back e three (kept-first (entryCheck e) [] (both .0))

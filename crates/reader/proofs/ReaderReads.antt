@@ -1,6 +1,6 @@
 -- The reader: what the definition gives where the buffer is too short, where the packet is refused, and where it is accepted.
 -- Assumes nothing.
-use mathlib.Core.Bool.{Bool, true, false, cond, false≢true}
+use mathlib.Core.Bool.{Bool, true, false, cond}
 use mathlib.Core.List.{List, []}
 use mathlib.Core.Path.{_≡_, _∙_, sym, refl, ap}
 use Prim.Native.Nat.{ℕ, _+_, _≤_, _<_}
@@ -8,10 +8,10 @@ use native.Mathlib.Omega.{arith}
 use borrow.Author.Tests.{le-leb, lt-leb, lt-ltb}
 use lib.Dec.{eqb, ltb}
 use lib.ListN.{length}
-use Rattle.values.proofs.Verdicts.{done-clear, refused-shows}
+use Rattle.values.proofs.Verdicts.{done-clear, refused-shows, when-there}
 use Rattle.values.specs.Answer.{BufferTooShort, refused}
 use Rattle.values.specs.Bytes.{over}
-use Rattle.values.specs.Check.{Check, Verdict, answer, clear, ifClear, sizeWhen, verdict, when}
+use Rattle.values.specs.Check.{Verdict, answer, clear, ifClear, sizeWhen, verdict}
 use Rattle.sections.proofs.CcDataReads.{captions-there, handed-long, handed-over, nothing-out}
 use Rattle.sections.specs.CcData.{ccDataChecks, ccDataSize, handOut, handedOut}
 use Rattle.sections.specs.Header.{flagsIn}
@@ -24,10 +24,6 @@ use Rattle.values.specs.declared.answer.Answer.{Answer}
 
 abbrev result : Answer → CDPParser → CDPParserRead
 result a s = record { answer = a; parser = s }
-
-when-there : (present : Bool) (cs : List Check) → present ≡ true → verdict (when present cs) ≡ clear → verdict cs ≡ clear
-when-there true cs on h = h
-when-there false cs on h = absurd (false≢true on)
 
 -- a length of 0 goes with no caption section, and nothing put is nothing changed
 captions-out : (p : List ℕ) (i : ℕ) (buffer : List ℕ) → 95 ≤ length buffer → (present : Bool)

@@ -3,7 +3,7 @@
 -- Assumes nothing.
 use mathlib.Core.Bool.{Bool, true, false}
 use mathlib.Core.List.{List, [], _∷_, _++_}
-use mathlib.Core.Path.{_≡_, _∙_, sym, refl, ap}
+use mathlib.Core.Path.{_≡_, _∙_, sym, refl}
 use Prim.Native.Nat.{ℕ, _+_, _-_, _*_, _/_, _%_, _≤_, _<_}
 use native.Mathlib.Omega.{arith}
 use borrow.Author.Tests.{eq-eqb, ne-eqb, le-leb, leb-true, lt-leb}
@@ -11,7 +11,7 @@ use lib.Dec.{eqb}
 use lib.ListN.{length, drop, length-drop}
 use lib.Seq.{length-take-le}
 use Rattle.values.proofs.Verdicts.{kept-first, kept-rest}
-use Rattle.values.proofs.Puts.{length-over, over-over, put-fits, put-short}
+use Rattle.values.proofs.Puts.{put-fits, put-put, put-short}
 use Rattle.values.specs.Answer.{LengthMismatch, WrongMagic, InvalidFixedBits, done, refused}
 use Rattle.values.specs.Bytes.{byte, over, part, put}
 use Rattle.values.specs.Check.{Check, check, clear, verdict}
@@ -96,14 +96,7 @@ module _ (p : List ℕ) (i : ℕ) where
         put-over = put-fits 0 (head ++ tail) buffer (omega (arith, long-tail))
 
         pub handed : put 2 tail (put 0 head buffer) ≡ handOut p present i buffer
-        handed =
-            let first : put 0 head buffer ≡ over 0 head buffer = put-fits 0 head buffer (omega arith) in
-            let same : length (over 0 head buffer) ≡ length buffer = length-over 0 head buffer (omega arith) in
-            ap (put 2 tail) first
-            ∙ put-fits 2 tail (over 0 head buffer) (omega (arith, long-tail, same))
-            ∙ over-over 0 head tail buffer (omega arith)
-            ∙ sym put-over
-            ∙ as-put
+        handed = put-put 0 head tail buffer (omega (arith, long-tail)) ∙ sym put-over ∙ as-put
 
         pub handed-over : handOut p present i buffer ≡ over 0 (handedOut p i) buffer
         handed-over = sym as-put ∙ put-over ∙ rw (as-count, as-size) refl

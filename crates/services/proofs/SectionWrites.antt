@@ -1,26 +1,26 @@
 -- Writing a section: its bytes entry by entry, and what is left where a test is the first that fails, or where none does.
 -- Assumes nothing.
 use mathlib.Core.Path.{_≡_, _∙_, sym, refl, ap}
-use mathlib.Core.Bool.{Bool, true, false, cond, true≢false, false≢true}
-use mathlib.Core.List.{List, [], _∷_, _++_, append-nil}
+use mathlib.Core.Bool.{Bool, true, false, cond, false≢true}
+use mathlib.Core.List.{List, [], _∷_, _++_}
 use Prim.Native.Nat.{ℕ, zero, suc, _+_, _*_, _≤_, _<_}
 use native.Mathlib.Nat.{add-zero}
 use native.Mathlib.Numerals.{add-one}
 use native.Mathlib.Omega.{arith}
-use borrow.Author.Tests.{le-leb, lt-leb, leb-true}
+use borrow.Author.Tests.{le-leb, leb-true}
 use lib.Dec.{eqb, leb}
-use lib.ListN.{length, getD, take, take-append-drop}
-use Rattle.values.proofs.Puts.{length-over, over-over, put-fits}
-use Rattle.values.proofs.Verdicts.{andThen, verdict-append}
+use lib.ListN.{length, getD}
+use Rattle.values.proofs.Puts.{length-over, over-nil, over-over, put-fits}
+use Rattle.values.proofs.Verdicts.{done-clear}
 use Rattle.values.specs.Answer.{WouldOverflow, BufferTooShort, NotWritable, done, refused}
 use Rattle.values.specs.Bytes.{over, put}
 use Rattle.values.specs.Check.{Verdict, clear, broken, verdict, answer}
 use Rattle.values.specs.Packet.{servicesId}
 use Rattle.entries.specs.Service.{filler}
 use Rattle.services.specs.ServiceList.{byteLen, sectionLength}
-use Rattle.entries.specs.Writing.{roomCheck, sevenBytes, written}
+use Rattle.entries.specs.Writing.{sevenBytes, written}
 use Rattle.services.specs.Writing.{allWritable, counted, entryListBytes, placesFrom, sectionByte, sectionBytes, sectionWritten, valueAnswer, valueChecks}
-use Rattle.entries.proofs.EntryWrites.{Leaves, done-means}
+use Rattle.entries.proofs.EntryWrites.{Leaves, all-fits, no-room, room-done, values-refused}
 use Rattle.services.proofs.Writable.{entries-verdict, same-place}
 use Rattle.entries.specs.declared.entry.ServiceEntry.{ServiceEntry}
 use Rattle.services.specs.declared.list.ServiceInfo.{ServiceInfo}
@@ -66,8 +66,8 @@ entriesPut k services buffer = over 2 (entryListBytes (placesFrom services 0 k))
 
 module _ (k : ℕ) (services : List ServiceEntry) (buffer : List ℕ) where
   pub put-none : buffer ≡ entriesPut 0 services buffer
-  unfolding entriesPut over
-  put-none = rw (append-nil (take 2 buffer)) (sym (take-append-drop 2 buffer))
+  unfolding entriesPut
+  put-none = sym (over-nil 2 buffer)
 
   pub put-more : (d : ServiceEntry) → k < length services → 2 + 7 * k + 7 ≤ length buffer
       → put (2 + 7 * k) (sevenBytes (getD services k d)) (entriesPut k services buffer) ≡ entriesPut (k + 1) services buffer
@@ -121,44 +121,30 @@ value-done l h =
 pub value-length : (l : ServiceInfo) → eqb (valueAnswer l .number) 0 ≡ true → byteLen l ≡ done (sectionLength (l .count))
 value-length l h = simp (le-leb _ _ (value-done l h .0))
 
--- a refusal by the value's tests is the writer's
-refused-so : (v w : Verdict) (bytes buffer : List ℕ) → eqb (answer v 0 .number) 0 ≡ false
-    → Leaves (written (andThen v w) bytes buffer) (answer v 0) buffer
-refused-so clear w bytes buffer h = absurd (true≢false h)
-refused-so (broken why) w bytes buffer h = (refl, refl)
+pub value-clear : (l : ServiceInfo) → eqb (valueAnswer l .number) 0 ≡ true → verdict (valueChecks l) ≡ clear
+unfolding valueAnswer
+value-clear l h = done-clear (verdict (valueChecks l)) 0 h
 
 module _ (l : ServiceInfo) (buffer : List ℕ) where
-  room : Verdict
-  room = verdict (roomCheck (sectionLength (l .count)) buffer ∷ [])
-
-  as-parts : written (andThen (verdict (valueChecks l)) room) (sectionBytes l) buffer ≡ sectionWritten l buffer
-  unfolding sectionWritten room
-  as-parts =
-      ap (λ (v : Verdict). written v (sectionBytes l) buffer)
-      (sym (verdict-append (valueChecks l) (roomCheck (sectionLength (l .count)) buffer ∷ [])))
-
   pub value-refused : eqb (valueAnswer l .number) 0 ≡ false → Leaves (sectionWritten l buffer) (valueAnswer l) buffer
-  unfolding valueAnswer
-  value-refused h = rw (← as-parts) (refused-so (verdict (valueChecks l)) room (sectionBytes l) buffer h)
+  unfolding valueAnswer sectionWritten
+  value-refused h = values-refused (valueChecks l) (sectionLength (l .count)) (sectionBytes l) buffer 0 h
 
-  module _ (count : l .count ≤ 15) (entries : allWritable (counted l) ≡ true) where
-    value-clear : verdict (valueChecks l) ≡ clear
-    value-clear = value-parts l ∙ simp (le-leb _ _ count, entries)
-
+  module _ (right : verdict (valueChecks l) ≡ clear) where
     pub section-no-room : length buffer < sectionLength (l .count)
         → Leaves (sectionWritten l buffer) (refused (BufferTooShort (sectionLength (l .count)) (length buffer))) buffer
-    unfolding room
-    section-no-room h = rw (← as-parts, value-clear) (simp (lt-leb _ _ h), simp (lt-leb _ _ h))
+    unfolding sectionWritten
+    section-no-room h = no-room (valueChecks l) (sectionLength (l .count)) (sectionBytes l) buffer right h
 
     pub section-fits : sectionLength (l .count) ≤ length buffer
         → Leaves (sectionWritten l buffer) (done (sectionLength (l .count))) (over 0 (sectionBytes l) buffer)
-    unfolding room
-    section-fits h = rw (← as-parts, value-clear) (simp (le-leb _ _ h, section-length l), simp (le-leb _ _ h))
+    unfolding sectionWritten
+    section-fits h = all-fits (valueChecks l) (sectionLength (l .count)) (sectionBytes l) buffer right (section-length l) h
 
 -- where the writer answers 0 the value's tests are clear, and the section stands at the start of the buffer
 pub written-done : (l : ServiceInfo) (buffer : List ℕ) → eqb (sectionWritten l buffer .answer .number) 0 ≡ true
     → (eqb (valueAnswer l .number) 0 ≡ true) × (sectionWritten l buffer ≡ written clear (sectionBytes l) buffer)
-unfolding valueAnswer
+unfolding valueAnswer sectionWritten
 written-done l buffer h =
-    let both = done-means (verdict (valueChecks l)) (room l buffer) (sectionBytes l) buffer (rw (← as-parts l buffer) at h) in
-    (rw (both .0), sym (as-parts l buffer) ∙ both .1)
+    let both = room-done (valueChecks l) (sectionLength (l .count)) (sectionBytes l) buffer h in
+    (rw (both .0), both .1)

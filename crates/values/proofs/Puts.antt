@@ -1,13 +1,14 @@
 -- Bytes put into a buffer: none, one more, all of them; and where they do not fit.
 -- Assumes nothing.
 use mathlib.Core.Path.{_≡_, _∙_, sym, ap, ap₂}
-use mathlib.Core.List.{List, _++_, append-assoc}
-use Prim.Native.Nat.{ℕ, _+_, _≤_, _<_}
+use mathlib.Core.List.{List, [], _++_, append-assoc, append-nil}
+use Prim.Native.Nat.{ℕ, _+_, _-_, _≤_, _<_}
+use native.Mathlib.Nat.{add-zero, zero-add}
 use native.Mathlib.Numerals.{add-one}
 use native.Mathlib.Omega.{arith}
 use borrow.Author.Tests.{le-leb, lt-leb}
-use lib.ListN.{length, getD, set, take, drop, length-append, length-take}
-use lib.Seq.{paste, paste-zero, paste-suc, length-paste, take-all, take-at, drop-append-add, drop-drop}
+use lib.ListN.{length, getD, set, take, drop, length-append, length-drop, length-take, drop-of-length-le, take-append-drop}
+use lib.Seq.{paste, paste-zero, paste-suc, length-paste, take-all, take-append-seam, take-at, drop-append-add, drop-drop}
 use Rattle.values.specs.Bytes.{over, put}
 
 -- the buffer with the first k of the bytes put
@@ -54,3 +55,42 @@ over-over at xs ys buffer h =
     ap₂ (λ (f b : List ℕ). f ++ ys ++ b) (take-at head rest (at + length xs) long) behind
     ∙ ap (λ (n : ℕ). head ++ ys ++ drop n buffer) end
     ∙ ap (λ (f : List ℕ). f ++ drop (at + length (xs ++ ys)) buffer) (append-assoc (take at buffer) xs ys)
+
+-- the same of two puts, where there is room for both
+pub put-put : (at : ℕ) (xs ys buffer : List ℕ) → at + (length xs + length ys) ≤ length buffer
+    → put (at + length xs) ys (put at xs buffer) ≡ over at (xs ++ ys) buffer
+put-put at xs ys buffer h =
+    let same : length (over at xs buffer) ≡ length buffer = length-over at xs buffer (omega arith) in
+    ap (put (at + length xs) ys) (put-fits at xs buffer (omega arith))
+    ∙ put-fits (at + length xs) ys (over at xs buffer) (omega (arith, same))
+    ∙ over-over at xs ys buffer (omega arith)
+
+-- what stands before their end, where bytes were put
+pub take-put : (at : ℕ) (bytes buffer : List ℕ) → at + length bytes ≤ length buffer
+    → take (at + length bytes) (put at bytes buffer) ≡ take at buffer ++ bytes
+unfolding over
+take-put at bytes buffer h =
+    ap (take (at + length bytes)) (put-fits at bytes buffer h)
+    ∙ take-at (take at buffer ++ bytes) _ (at + length bytes) (simp (length-append, length-take) (omega arith))
+
+-- bytes put at the start of what stands from a place on are put at that place
+pub part-over : (at : ℕ) (bytes buffer : List ℕ)
+    → take at buffer ++ (over 0 bytes (take (length buffer - at) (drop at buffer)) ++ drop (length buffer - at) (drop at buffer)) ≡ over at bytes buffer
+unfolding over
+part-over at bytes buffer =
+    let rest : List ℕ = drop at buffer in
+    let long : length rest ≡ length buffer - at = length-drop at buffer in
+    let all : take (length buffer - at) rest ≡ rest = take-all (length buffer - at) rest (omega (arith, long)) in
+    let none : drop (length buffer - at) rest ≡ [] = drop-of-length-le rest {i = length buffer - at} (omega (arith, long)) in
+    rw (all, none, zero-add (length bytes), append-nil (bytes ++ drop (length bytes) rest), drop-drop (length bytes) at buffer)
+    (sym (append-assoc (take at buffer) bytes (drop (at + length bytes) buffer)))
+
+-- no bytes put are nothing changed
+pub over-nil : (at : ℕ) (buffer : List ℕ) → over at [] buffer ≡ buffer
+unfolding over
+over-nil at buffer = rw (append-nil (take at buffer), add-zero at) (take-append-drop at buffer)
+
+-- what was put at the start stands there
+pub take-over : (bytes buffer : List ℕ) → take (length bytes) (over 0 bytes buffer) ≡ bytes
+unfolding over
+take-over bytes buffer = take-append-seam bytes _

@@ -7,7 +7,7 @@ use Prim.Native.Nat.{ℕ}
 use lib.Dec.{eqb}
 use Rattle.values.specs.Answer as Table
 use Rattle.values.specs.Answer.{Refusal, refused}
-use Rattle.values.specs.Check.{Check, Verdict, clear, broken, verdict, answer, ifClear}
+use Rattle.values.specs.Check.{Check, Verdict, when, clear, broken, verdict, answer, ifClear}
 use Rattle.values.specs.declared.answer.Answer.{Answer}
 
 -- the first verdict, and the second where the first is clear
@@ -95,3 +95,8 @@ and-first (broken why) w h = h
 pub and-second : (v w : Verdict) → andThen v w ≡ clear → w ≡ clear
 and-second clear w h = h
 and-second (broken why) w h = absurd (broken-not-clear why h)
+
+-- the checks of a part that is there are its own
+pub when-there : (present : Bool) (cs : List Check) → present ≡ true → verdict (when present cs) ≡ clear → verdict cs ≡ clear
+when-there true cs on h = h
+when-there false cs on h = absurd (false≢true on)

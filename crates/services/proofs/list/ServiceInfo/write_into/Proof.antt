@@ -2,7 +2,7 @@
 -- Assumes nothing.
 use mathlib.Core.Path.{_∙_, sym}
 use borrow.Author.Tests.{not-true, not-false}
-use Rattle.services.proofs.SectionWrites.{value-refused, value-done, value-length, section-no-room, section-fits}
+use Rattle.services.proofs.SectionWrites.{value-clear, value-refused, value-done, value-length, section-no-room, section-fits}
 use borrow.Author.Needs.{needs}
 use Rattle.services.proofs.list.ServiceInfo.write_into.Statement.{statement}
 use Rattle.services.proofs.list.ServiceInfo.write_into.Tie as tie
@@ -28,7 +28,7 @@ returns-2 c =
     let e = s .before .before .before .writable .ensures in
     let ok = rw e at (sym (s .before .before .is-done .ensures) ∙ not-false _ (s .before .if1 .left)) in
     let size = s .byte-len .ensures ∙ value-length _ ok in
-    rw (c .buffer-too-short .ensures, size) (section-no-room _ _ (value-done _ ok .0) (value-done _ ok .1) (rw size at (c .before .if2 .taken)))
+    rw (c .buffer-too-short .ensures, size) (section-no-room _ _ (value-clear _ ok) (rw size at (c .before .if2 .taken)))
 
 put-section-requires : tie.Need-put-section-requires
 put-section-requires c κs =
@@ -47,7 +47,7 @@ returns-3 c =
     let e = s .before .before .before .writable .ensures in
     let ok = rw e at (sym (s .before .before .is-done .ensures) ∙ not-false _ (s .before .if1 .left)) in
     let size = s .byte-len .ensures ∙ value-length _ ok in
-    rw (size, c .before .before .put-section .ensures) (section-fits _ _ (value-done _ ok .0) (value-done _ ok .1) (rw size at (c .before .before .before .before .if2 .left)))
+    rw (size, c .before .before .put-section .ensures) (section-fits _ _ (value-clear _ ok) (rw size at (c .before .before .before .before .if2 .left)))
 
 pub write-into-spec : {M : Type 1} → statement M
 write-into-spec =

@@ -1,0 +1,145 @@
+-- Whether a packet can be written, test by test: what the definition answers where a test is the first that fails, and
+-- what holds where none does.
+-- Assumes nothing.
+use mathlib.Core.Path.{_≡_, _∙_, sym, refl, ap}
+use mathlib.Core.Bool.{Bool, true, false, false≢true, _&&_}
+use mathlib.Core.List.{List, [], _∷_, _++_}
+use Prim.Native.Nat.{ℕ, _+_, _*_, _%_, _≤_, _<_}
+use native.Mathlib.Omega.{arith}
+use borrow.Author.Tests.{eq-eqb, ne-eqb, le-leb, lt-leb, leb-true, leb-false, eqb-true}
+use lib.Dec.{eqb, leb}
+use Rattle.values.proofs.Bools.{and-left, and-right}
+use Rattle.values.proofs.Rates.{above-table}
+use Rattle.values.proofs.Verdicts.{and-first, and-second, andThen, done-clear, done-shows, kept-first, kept-rest, refused-shows, refused-stays, verdict-append}
+use Rattle.values.specs.Answer.{UnknownFramerate, WrongCaptionRun, done, refused}
+use Rattle.values.specs.Check.{Check, Verdict, answer, check, clear, sizeWhen, verdict, when}
+use Rattle.values.specs.Rate.{fromId, known}
+use Rattle.services.specs.ServiceList.{countCheck}
+use Rattle.services.specs.Writing.{counted, entryWriteChecks, valueChecks}
+use Rattle.writer.specs.Writing.{fullTriplets, packetChecks, packetLength, svcInfoChecks, svcInfoSize, timeCodeChecks, timeCodeSize}
+use Rattle.services.specs.declared.list.MaybeServiceInfo.{MaybeServiceInfo}
+use Rattle.services.specs.declared.list.ServiceInfo.{ServiceInfo}
+use Rattle.values.specs.declared.answer.Answer.{Answer}
+use Rattle.values.specs.declared.framerate.Framerate.{Framerate}
+use Rattle.values.specs.declared.framerate.MaybeFramerate.{MaybeFramerate}
+use Rattle.values.specs.declared.time_code.MaybeTimeCode.{MaybeTimeCode}
+use Rattle.writer.specs.declared.writer.CDPWriter.{CDPWriter}
+
+-- a part that may be held: its own checks decide where it is, and its size goes with 0
+module _ (present : Bool) (cs : List Check) (size : ℕ) where
+  abbrev part : Answer
+  part = answer (verdict (when present cs)) (sizeWhen present size)
+
+  pub not-held : present ≡ false → done 0 ≡ part
+  not-held a = simp a
+
+  module _ (held : present ≡ true) (k : ℕ) where
+    pub held-refused : eqb (answer (verdict cs) k .number) 0 ≡ false → answer (verdict cs) k ≡ part
+    held-refused h = simp held (refused-shows (λ (a : Answer) (n : ℕ). a) (verdict cs) k size 0 0 h)
+
+    pub held-done : eqb (answer (verdict cs) k .number) 0 ≡ true → done size ≡ part
+    held-done h = simp held (done-shows (λ (a : Answer) (n : ℕ). a) (verdict cs) k size 0 0 h)
+
+-- so time code and services, as the code asks for them
+abbrev pub timeAsked : MaybeTimeCode → Answer
+timeAsked time = answer (verdict (timeCodeChecks time)) (timeCodeSize time)
+
+abbrev pub servicesAsked : MaybeServiceInfo → Answer
+servicesAsked services = answer (verdict (svcInfoChecks services)) (svcInfoSize services)
+
+abbrev pub packetAsked : CDPWriter → Framerate → ℕ → Answer
+packetAsked w rate run = answer (verdict (packetChecks w rate run)) (packetLength w run)
+
+-- where an answer is done, it is the size
+pub done-is : (v : Verdict) (size : ℕ) → eqb (answer v size .number) 0 ≡ true → answer v size ≡ done size
+done-is v size h = ap (λ (u : Verdict). answer u size) (done-clear v size h)
+
+-- a held list that can be written counts up to 15, so that its section has 107 bytes at most
+services-most : (present : Bool) (l : ServiceInfo) → verdict (when present (valueChecks l)) ≡ clear → sizeWhen present (2 + 7 * l .count) ≤ 107
+services-most true l h = let few : l .count ≤ 15 = leb-true _ _ (kept-first (countCheck l) (entryWriteChecks (counted l)) h) in omega arith
+services-most false l h = omega arith
+
+time-most : (present : Bool) → sizeWhen present 5 ≤ 5
+time-most true = omega arith
+time-most false = omega arith
+
+pub svc-info-most : (services : MaybeServiceInfo) → verdict (svcInfoChecks services) ≡ clear → svcInfoSize services ≤ 107
+svc-info-most services h = services-most (services .present) (services .«service_info») h
+
+pub time-code-most : (time : MaybeTimeCode) → timeCodeSize time ≤ 5
+time-code-most time = time-most (time .present)
+
+-- an id that names a rate is 8 at most
+named-id : (id : ℕ) (small : Bool) → leb id 8 ≡ small → fromId id .present ≡ true → id ≤ 8
+named-id id true e h = leb-true _ _ e
+named-id id false e h = absurd (false≢true (ap (λ (r : MaybeFramerate). r .present) (above-table id (leb-false _ _ e)) ∙ h))
+
+pub known-id : (rate : Framerate) → known rate ≡ true → rate .id ≤ 8
+known-id rate h = named-id (rate .id) (leb (rate .id) 8) refl (and-left _ _ h)
+
+module _ (w : CDPWriter) (rate : Framerate) (run : ℕ) where
+  pub other-rate : known rate ≡ false → refused UnknownFramerate ≡ packetAsked w rate run
+  other-rate a = simp a
+
+  module _ (rated : known rate ≡ true) where
+    pub run-long : 93 < run → refused WrongCaptionRun ≡ packetAsked w rate run
+    run-long a = simp (rated, lt-leb _ _ a)
+
+    module _ (short : run ≤ 93) where
+      pub run-cut : (run % 3 ≡ 0 → ⊥) → refused WrongCaptionRun ≡ packetAsked w rate run
+      run-cut a = simp (rated, le-leb _ _ short, ne-eqb _ _ a)
+
+      module _ (whole : run % 3 ≡ 0) where
+        abbrev behind : Verdict
+        behind = andThen (verdict (timeCodeChecks (w .«time_code»))) (verdict (svcInfoChecks (w .«service_info»)))
+
+        as-parts : verdict (packetChecks w rate run) ≡ behind
+        as-parts = simp (rated, le-leb _ _ short, eq-eqb _ _ whole) (verdict-append (timeCodeChecks (w .«time_code»)) (svcInfoChecks (w .«service_info»)))
+
+        pub time-refused : eqb (timeAsked (w .«time_code») .number) 0 ≡ false → timeAsked (w .«time_code») ≡ packetAsked w rate run
+        time-refused h =
+            let v : Verdict = verdict (timeCodeChecks (w .«time_code»)) in
+            refused-shows (λ (a : Answer) (n : ℕ). a) v _ (packetLength w run) 0 0 h
+            ∙ ap (λ (u : Verdict). answer u (packetLength w run)) (sym (as-parts ∙ refused-stays v _ _ h))
+
+        module _ (timed : eqb (timeAsked (w .«time_code») .number) 0 ≡ true) where
+          behind-time : verdict (packetChecks w rate run) ≡ verdict (svcInfoChecks (w .«service_info»))
+          behind-time = as-parts ∙ ap (λ (v : Verdict). andThen v (verdict (svcInfoChecks (w .«service_info»)))) (done-clear (verdict (timeCodeChecks (w .«time_code»))) (timeCodeSize (w .«time_code»)) timed)
+
+          pub services-refused : eqb (servicesAsked (w .«service_info») .number) 0 ≡ false → servicesAsked (w .«service_info») ≡ packetAsked w rate run
+          services-refused h =
+              refused-shows (λ (a : Answer) (n : ℕ). a) (verdict (svcInfoChecks (w .«service_info»))) _ (packetLength w run) 0 0 h
+              ∙ ap (λ (u : Verdict). answer u (packetLength w run)) (sym behind-time)
+
+          pub all-right : eqb (servicesAsked (w .«service_info») .number) 0 ≡ true → done (packetLength w run) ≡ packetAsked w rate run
+          all-right h = ap (λ (u : Verdict). answer u (packetLength w run)) (sym (behind-time ∙ done-clear _ _ h))
+
+-- what holds of a packet that can be written
+pub record Accepted (w : CDPWriter) (rate : Framerate) (run : ℕ) : Type 0 where
+  pub rated : known rate ≡ true
+  pub short : run ≤ 93
+  pub whole : run % 3 ≡ 0
+  pub timed : verdict (timeCodeChecks (w .«time_code»)) ≡ clear
+  pub served : verdict (svcInfoChecks (w .«service_info»)) ≡ clear
+
+pub accepted : (w : CDPWriter) (rate : Framerate) (run : ℕ) → verdict (packetChecks w rate run) ≡ clear → Accepted w rate run
+accepted w rate run h =
+    let parts : List Check = timeCodeChecks (w .«time_code») ++ svcInfoChecks (w .«service_info») in
+    let triplets : Check = check (fullTriplets run) WrongCaptionRun in
+    let later : verdict (triplets ∷ parts) ≡ clear = kept-rest (check (known rate) UnknownFramerate) (triplets ∷ parts) h in
+    let full : fullTriplets run ≡ true = kept-first triplets parts later in
+    let both : andThen (verdict (timeCodeChecks (w .«time_code»))) (verdict (svcInfoChecks (w .«service_info»))) ≡ clear =
+    sym (verdict-append (timeCodeChecks (w .«time_code»)) (svcInfoChecks (w .«service_info»))) ∙ kept-rest triplets parts later in
+    record {
+      rated = kept-first (check (known rate) UnknownFramerate) (triplets ∷ parts) h;
+      short = leb-true _ _ (and-left _ _ full);
+      whole = eqb-true _ _ (and-right (leb run 93) _ full);
+      timed = and-first _ _ both;
+      served = and-second (verdict (timeCodeChecks (w .«time_code»))) _ both;
+    }
+
+-- The longest packet that is written has 218 bytes.
+pub length-most : (w : CDPWriter) (rate : Framerate) (run : ℕ) → verdict (packetChecks w rate run) ≡ clear → packetLength w run ≤ 218
+length-most w rate run h =
+    let a : Accepted w rate run = accepted w rate run h in
+    omega (arith, a .short, time-code-most (w .«time_code»), svc-info-most (w .«service_info») (a .served))

@@ -1,0 +1,4 @@
+pub mod Setters
+pub mod Checks
+pub mod Parts
+pub mod PacketWrites

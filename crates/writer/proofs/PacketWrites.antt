@@ -1,0 +1,46 @@
+-- Writing a packet: what is left where a test is the first that fails, and where none does.
+-- Assumes nothing.
+use mathlib.Core.Path.{_≡_}
+use mathlib.Core.Bool.{true, false}
+use mathlib.Core.List.{List}
+use Prim.Native.Nat.{ℕ, _≤_, _<_}
+use lib.Dec.{eqb}
+use lib.ListN.{length}
+use Rattle.values.specs.Answer.{BufferTooShort, done, refused}
+use Rattle.values.specs.Bytes.{over}
+use Rattle.values.specs.Check.{clear, verdict}
+use Rattle.entries.proofs.EntryWrites.{Leaves, all-fits, no-room, room-done, values-refused}
+use Rattle.entries.specs.Writing.{written}
+use Rattle.writer.proofs.Checks.{packetAsked}
+use Rattle.writer.proofs.Parts.{packet-length}
+use Rattle.writer.specs.Writing.{packetBytes, packetChecks, packetLength, packetWritten}
+use Rattle.values.specs.declared.framerate.Framerate.{Framerate}
+use Rattle.writer.specs.declared.writer.CDPWriter.{CDPWriter}
+
+module _ (w : CDPWriter) (rate : Framerate) (captions buffer : List ℕ) where
+  abbrev run : ℕ
+  run = length captions
+
+  pub packet-refused : eqb (packetAsked w rate run .number) 0 ≡ false
+      → Leaves (packetWritten w rate captions buffer) (packetAsked w rate run) buffer
+  unfolding packetWritten
+  packet-refused h =
+      values-refused (packetChecks w rate run) (packetLength w run) (packetBytes w rate captions) buffer (packetLength w run) h
+
+  module _ (right : verdict (packetChecks w rate run) ≡ clear) where
+    pub packet-no-room : length buffer < packetLength w run
+        → Leaves (packetWritten w rate captions buffer) (refused (BufferTooShort (packetLength w run) (length buffer))) buffer
+    unfolding packetWritten
+    packet-no-room h = no-room (packetChecks w rate run) (packetLength w run) (packetBytes w rate captions) buffer right h
+
+    pub packet-fits : packetLength w run ≤ length buffer
+        → Leaves (packetWritten w rate captions buffer) (done (packetLength w run)) (over 0 (packetBytes w rate captions) buffer)
+    unfolding packetWritten
+    packet-fits h =
+        all-fits (packetChecks w rate run) (packetLength w run) (packetBytes w rate captions) buffer right (packet-length w rate captions) h
+
+  -- where writing answers 0 the checks are clear, and the packet stands at the start of the buffer
+  pub packet-done : eqb (packetWritten w rate captions buffer .answer .number) 0 ≡ true
+      → (verdict (packetChecks w rate run) ≡ clear) × (packetWritten w rate captions buffer ≡ written clear (packetBytes w rate captions) buffer)
+  unfolding packetWritten
+  packet-done h = room-done (packetChecks w rate run) (packetLength w run) (packetBytes w rate captions) buffer h
