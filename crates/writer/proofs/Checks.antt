@@ -14,8 +14,10 @@ use Rattle.values.proofs.Verdicts.{and-first, and-second, andThen, done-clear, 
 use Rattle.values.specs.Answer.{UnknownFramerate, WrongCaptionRun, done, refused}
 use Rattle.values.specs.Check.{Check, Verdict, answer, check, clear, sizeWhen, verdict, when}
 use Rattle.values.specs.Rate.{fromId, known}
-use Rattle.services.specs.ServiceList.{countCheck}
-use Rattle.services.specs.Writing.{counted, entryWriteChecks, valueChecks}
+use Rattle.values.specs.Time.{timeWriteChecks, timeWritten}
+use Rattle.services.proofs.SectionWrites.{value-length}
+use Rattle.services.specs.ServiceList.{byteLen, countCheck, sectionLength}
+use Rattle.services.specs.Writing.{counted, entryWriteChecks, valueAnswer, valueChecks}
 use Rattle.writer.specs.Writing.{fullTriplets, packetChecks, packetLength, svcInfoChecks, svcInfoSize, timeCodeChecks, timeCodeSize}
 use Rattle.services.specs.declared.list.MaybeServiceInfo.{MaybeServiceInfo}
 use Rattle.services.specs.declared.list.ServiceInfo.{ServiceInfo}
@@ -30,28 +32,57 @@ module _ (present : Bool) (cs : List Check) (size : ℕ) where
   abbrev part : Answer
   part = answer (verdict (when present cs)) (sizeWhen present size)
 
-  pub not-held : present ≡ false → done 0 ≡ part
+  not-held : present ≡ false → done 0 ≡ part
   not-held a = simp a
 
   module _ (held : present ≡ true) (k : ℕ) where
-    pub held-refused : eqb (answer (verdict cs) k .number) 0 ≡ false → answer (verdict cs) k ≡ part
+    held-refused : eqb (answer (verdict cs) k .number) 0 ≡ false → answer (verdict cs) k ≡ part
     held-refused h = simp held (refused-shows (λ (a : Answer) (n : ℕ). a) (verdict cs) k size 0 0 h)
 
-    pub held-done : eqb (answer (verdict cs) k .number) 0 ≡ true → done size ≡ part
+    held-done : eqb (answer (verdict cs) k .number) 0 ≡ true → done size ≡ part
     held-done h = simp held (done-shows (λ (a : Answer) (n : ℕ). a) (verdict cs) k size 0 0 h)
 
--- so time code and services, as the code asks for them
+-- so time code and services
 abbrev pub timeAsked : MaybeTimeCode → Answer
 timeAsked time = answer (verdict (timeCodeChecks time)) (timeCodeSize time)
 
 abbrev pub servicesAsked : MaybeServiceInfo → Answer
 servicesAsked services = answer (verdict (svcInfoChecks services)) (svcInfoSize services)
 
+module _ (time : MaybeTimeCode) where
+  pub no-time : time .present ≡ false → done 0 ≡ timeAsked time
+  no-time a = not-held (time .present) (timeWriteChecks (time .«time_code»)) 5 a
+
+  module _ (held : time .present ≡ true) where
+    pub bad-time : eqb (timeWritten (time .«time_code») .answer .number) 0 ≡ false → timeWritten (time .«time_code») .answer ≡ timeAsked time
+    unfolding timeWritten
+    bad-time h = held-refused (time .present) (timeWriteChecks (time .«time_code»)) 5 held 0 h
+
+    pub good-time : eqb (timeWritten (time .«time_code») .answer .number) 0 ≡ true → done 5 ≡ timeAsked time
+    unfolding timeWritten
+    good-time h = held-done (time .present) (timeWriteChecks (time .«time_code»)) 5 held 0 h
+
+module _ (services : MaybeServiceInfo) where
+  abbrev list : ServiceInfo
+  list = services .«service_info»
+
+  pub no-list : services .present ≡ false → done 0 ≡ servicesAsked services
+  no-list a = not-held (services .present) (valueChecks list) (sectionLength (list .count)) a
+
+  module _ (held : services .present ≡ true) where
+    pub bad-list : eqb (valueAnswer list .number) 0 ≡ false → valueAnswer list ≡ servicesAsked services
+    unfolding valueAnswer
+    bad-list h = held-refused (services .present) (valueChecks list) (sectionLength (list .count)) held 0 h
+
+    pub good-list : eqb (valueAnswer list .number) 0 ≡ true → byteLen list ≡ servicesAsked services
+    unfolding valueAnswer
+    good-list h = value-length list h ∙ held-done (services .present) (valueChecks list) (sectionLength (list .count)) held 0 h
+
 abbrev pub packetAsked : CDPWriter → Framerate → ℕ → Answer
 packetAsked w rate run = answer (verdict (packetChecks w rate run)) (packetLength w run)
 
 -- where an answer is done, it is the size
-pub done-is : (v : Verdict) (size : ℕ) → eqb (answer v size .number) 0 ≡ true → answer v size ≡ done size
+done-is : (v : Verdict) (size : ℕ) → eqb (answer v size .number) 0 ≡ true → answer v size ≡ done size
 done-is v size h = ap (λ (u : Verdict). answer u size) (done-clear v size h)
 
 -- a held list that can be written counts up to 15, so that its section has 107 bytes at most
@@ -63,11 +94,29 @@ time-most : (present : Bool) → sizeWhen present 5 ≤ 5
 time-most true = omega arith
 time-most false = omega arith
 
-pub svc-info-most : (services : MaybeServiceInfo) → verdict (svcInfoChecks services) ≡ clear → svcInfoSize services ≤ 107
+svc-info-most : (services : MaybeServiceInfo) → verdict (svcInfoChecks services) ≡ clear → svcInfoSize services ≤ 107
 svc-info-most services h = services-most (services .present) (services .«service_info») h
 
-pub time-code-most : (time : MaybeTimeCode) → timeCodeSize time ≤ 5
+time-code-most : (time : MaybeTimeCode) → timeCodeSize time ≤ 5
 time-code-most time = time-most (time .present)
+
+-- the two sizes that go with 0, as they are added up
+pub record Sizes (time services : Answer) (w : CDPWriter) : Type 0 where
+  pub time-is : time .first ≡ timeCodeSize (w .«time_code»)
+  pub services-is : services .first ≡ svcInfoSize (w .«service_info»)
+  pub time-few : timeCodeSize (w .«time_code») ≤ 5
+  pub services-few : svcInfoSize (w .«service_info») ≤ 107
+
+pub sizes : (time services : Answer) (w : CDPWriter) → time ≡ timeAsked (w .«time_code») → services ≡ servicesAsked (w .«service_info»)
+    → eqb (time .number) 0 ≡ true → eqb (services .number) 0 ≡ true → Sizes time services w
+sizes time services w t s timed served =
+    let right = done-clear (verdict (svcInfoChecks (w .«service_info»))) (svcInfoSize (w .«service_info»)) (rw s at served) in
+    record {
+      time-is = ap (λ (a : Answer). a .first) (t ∙ done-is (verdict (timeCodeChecks (w .«time_code»))) (timeCodeSize (w .«time_code»)) (rw t at timed));
+      services-is = ap (λ (a : Answer). a .first) (s ∙ done-is (verdict (svcInfoChecks (w .«service_info»))) (svcInfoSize (w .«service_info»)) (rw s at served));
+      time-few = time-code-most (w .«time_code»);
+      services-few = svc-info-most (w .«service_info») right;
+    }
 
 -- an id that names a rate is 8 at most
 named-id : (id : ℕ) (small : Bool) → leb id 8 ≡ small → fromId id .present ≡ true → id ≤ 8
@@ -113,6 +162,13 @@ module _ (w : CDPWriter) (rate : Framerate) (run : ℕ) where
 
           pub all-right : eqb (servicesAsked (w .«service_info») .number) 0 ≡ true → done (packetLength w run) ≡ packetAsked w rate run
           all-right h = ap (λ (u : Verdict). answer u (packetLength w run)) (sym (behind-time ∙ done-clear _ _ h))
+
+-- an answer 0 is a clear verdict, with the packet's length
+pub packet-asked : (w : CDPWriter) (rate : Framerate) (run : ℕ) (a : Answer) → a ≡ packetAsked w rate run → eqb (a .number) 0 ≡ true
+    → (verdict (packetChecks w rate run) ≡ clear) × (a ≡ done (packetLength w run))
+packet-asked w rate run a e h =
+    let v : Verdict = verdict (packetChecks w rate run) in
+    (done-clear v (packetLength w run) (rw e at h), e ∙ done-is v (packetLength w run) (rw e at h))
 
 -- what holds of a packet that can be written
 pub record Accepted (w : CDPWriter) (rate : Framerate) (run : ℕ) : Type 0 where

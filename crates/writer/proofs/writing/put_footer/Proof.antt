@@ -1,63 +1,56 @@
+-- `writer::writing::put_footer`: the id and the sequence, and the checksum of all before it.
+-- Assumes nothing.
+use mathlib.Core.Path.{_∙_}
+use mathlib.Core.Path.{sym}
+use native.Mathlib.Omega.{arith}
+use lib.Seq.{length-take-le}
+use Rattle.writer.proofs.Parts.{footer-put}
 use borrow.Author.Needs.{needs}
 use Rattle.writer.proofs.writing.put_footer.Statement.{statement}
 use Rattle.writer.proofs.writing.put_footer.Tie as tie
-use Rattle.writer.proofs.writing.put_footer.Reads as reads
-use Rattle.writer.proofs.writing.put_footer.Lts as lts
-use Rattle.values.proofs.put.Reads as put-reads
-use Rattle.values.proofs.checksum_byte.Reads as checksum-byte-reads
-use Rattle.values.proofs.sequence_bytes.Reads as sequence-bytes-reads
 
--- src/writing.rt:169:17
 sequence-bytes-requires : tie.Need-sequence-bytes-requires
 sequence-bytes-requires c κs = search needs
 
--- src/writing.rt:170:42
 array-read-t11 : tie.Need-array-read-t11
 array-read-t11 c = search needs
 
--- src/writing.rt:170:52
 array-read-t14 : tie.Need-array-read-t14
 array-read-t14 c = search needs
 
--- src/writing.rt:171:18
 slice-aggregate-put : tie.Need-slice-aggregate-put
 slice-aggregate-put c = search needs
 
--- src/writing.rt:171:5
 put-requires : tie.Need-put-requires
 put-requires c κs = search needs
 
--- src/writing.rt:172:15
 add-end : tie.Need-add-end
 add-end c = search needs
 
--- src/writing.rt:173:30
 slice-reshare-prefix-checksum-byte : tie.Need-slice-reshare-prefix-checksum-byte
 slice-reshare-prefix-checksum-byte c = search needs
 
--- src/writing.rt:173:30
 slice-aggregate-checksum-byte : tie.Need-slice-aggregate-checksum-byte
-slice-aggregate-checksum-byte c = ?
+slice-aggregate-checksum-byte c = sym (length-take-le _ _ (omega (arith, c .before .before .before .put .kept .0)))
 
--- src/writing.rt:173:16
 checksum-byte-requires : tie.Need-checksum-byte-requires
 checksum-byte-requires c κs = search needs
 
--- src/writing.rt:174:19
 slice-aggregate-put-2 : tie.Need-slice-aggregate-put-2
 slice-aggregate-put-2 c = search needs
 
--- src/writing.rt:174:5
 put-requires-2 : tie.Need-put-requires-2
 put-requires-2 c κs = search needs
 
--- src/writing.rt:165:1
 same-length : tie.Need-same-length
 same-length c = search needs
 
--- src/writing.rt:165:1
 returns : tie.Need-returns
-returns c = ?
+returns c =
+    let s = c .before .before .before .before .before .before .before .before .before .before .before .before .before .before in
+    let p = c .before .before .before .before .before .before .before .before .before .put .ensures in
+    let e = c .before .before .before .before .before .before .before .before .before .before .before .before .sequence-bytes .ensures in
+    c .before .before .put2 .ensures ∙ rw (p, e) (footer-put (s .args .at) (s .args .out .now) (s .args .sequence) (s .pre) _ (rw (p, e) at (c .before .before .before .before .before .checksum-byte .ensures)))
 
 pub put-footer-spec : {M : Type 1} → statement M
 put-footer-spec =

@@ -1,41 +1,41 @@
+-- `writer::writing::put_svc_info`: the section from its place on, or nothing.
+-- Assumes nothing.
+use native.Mathlib.Omega.{arith}
+use borrow.Author.Tests.{not-true, not-false}
+use Rattle.writer.proofs.Parts.{services-absent, services-put}
 use borrow.Author.Needs.{needs}
 use Rattle.writer.proofs.writing.put_svc_info.Statement.{statement}
 use Rattle.writer.proofs.writing.put_svc_info.Tie as tie
-use Rattle.writer.proofs.writing.put_svc_info.Reads as reads
-use Rattle.writer.proofs.writing.put_svc_info.Lts as lts
-use Rattle.services.proofs.list.ServiceInfo.write_into.Reads as write-into-reads
 
--- src/writing.rt:157:9
 returns : tie.Need-returns
-returns c = ?
+returns c = services-absent _ _ (c .before .before .before .args .service-info) (not-true _ (c .if1 .taken))
 
--- src/writing.rt:160:35
 sub-write-into : tie.Need-sub-write-into
 sub-write-into c = search needs
 
--- src/writing.rt:160:35
 part-write-into-start : tie.Need-part-write-into-start
 part-write-into-start c = search needs
 
--- src/writing.rt:160:35
 part-write-into-end : tie.Need-part-write-into-end
 part-write-into-end c = search needs
 
--- src/writing.rt:160:9
 write-into-requires : tie.Need-write-into-requires
 write-into-requires c κs = search needs
 
--- src/writing.rt:161:5
 add-result : tie.Need-add-result
-add-result c = ?
+add-result c =
+    let s = c .before .before .before .before .before .before .before .before .before in
+    let p = services-put (s .args .at) (s .args .out .now) (s .args .service-info) (not-false _ (c .before .before .before .before .before .before .if1 .left)) (s .pre .0) (s .pre .1) in
+    rw (c .before .before .before .write-into .ensures .0) (omega (arith, p .0, s .pre .1))
 
--- src/writing.rt:150:1
 same-length : tie.Need-same-length
 same-length c = search needs
 
--- src/writing.rt:150:1
 returns-2 : tie.Need-returns-2
-returns-2 c = ?
+returns-2 c =
+    let s = c .before .before .before .before .before .before .before .before .before in
+    let p = services-put (s .args .at) (s .args .out .now) (s .args .service-info) (not-false _ (c .before .before .before .before .before .before .if1 .left)) (s .pre .0) (s .pre .1) in
+    (rw (c .before .before .before .write-into .ensures .0) (p .0), rw (c .before .before .before .write-into .ensures .1) (p .1))
 
 pub put-svc-info-spec : {M : Type 1} → statement M
 put-svc-info-spec =

@@ -1,40 +1,32 @@
+-- `writer::writing::svc_info_size`: its size, 0 where no list is held.
+-- Assumes nothing.
+use mathlib.Core.Path.{_∙_, sym}
+use borrow.Author.Tests.{not-true, not-false}
+use Rattle.writer.proofs.Checks.{bad-list, good-list, no-list}
 use borrow.Author.Needs.{needs}
 use Rattle.writer.proofs.writing.svc_info_size.Statement.{statement}
 use Rattle.writer.proofs.writing.svc_info_size.Tie as tie
-use Rattle.writer.proofs.writing.svc_info_size.Reads as reads
-use Rattle.writer.proofs.writing.svc_info_size.Lts as lts
-use Rattle.services.proofs.list.ServiceInfo.byte_len.Reads as byte-len-reads
-use Rattle.services.proofs.list.ServiceInfo.writable.Reads as writable-reads
-use Rattle.values.proofs.answer.Answer.done.Reads as done-reads
-use Rattle.values.proofs.answer.Answer.is_done.Reads as is-done-reads
 
--- src/writing.rt:198:9
 done-requires : tie.Need-done-requires
 done-requires c κs = search needs
 
--- src/writing.rt:198:9
 returns : tie.Need-returns
-returns c = ?
+returns c = c .done .ensures ∙ no-list (c .before .before .before .args .service-info) (not-true _ (c .before .if1 .taken))
 
--- src/writing.rt:201:9
 writable-requires : tie.Need-writable-requires
 writable-requires c κs = search needs
 
--- src/writing.rt:202:9
 is-done-requires : tie.Need-is-done-requires
 is-done-requires c κs = search needs
 
--- src/writing.rt:203:9
 returns-2 : tie.Need-returns-2
-returns-2 c = ?
+returns-2 c = rw (c .before .before .writable .ensures) (bad-list (c .before .before .before .before .before .before .args .service-info) (not-false _ (c .before .before .before .before .if1 .left)) (rw (c .before .before .writable .ensures) at (sym (c .before .is-done .ensures) ∙ not-true _ (c .if2 .taken))))
 
--- src/writing.rt:205:5
 byte-len-requires : tie.Need-byte-len-requires
 byte-len-requires c κs = search needs
 
--- src/writing.rt:194:1
 returns-3 : tie.Need-returns-3
-returns-3 c = ?
+returns-3 c = c .byte-len .ensures ∙ good-list (c .before .before .before .before .before .before .before .args .service-info) (not-false _ (c .before .before .before .before .before .if1 .left)) (rw (c .before .before .before .writable .ensures) at (sym (c .before .before .is-done .ensures) ∙ not-false _ (c .before .if2 .left)))
 
 pub svc-info-size-spec : {M : Type 1} → statement M
 svc-info-size-spec =

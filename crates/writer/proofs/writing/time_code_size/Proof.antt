@@ -2,7 +2,7 @@
 -- Assumes nothing.
 use mathlib.Core.Path.{_∙_, sym}
 use borrow.Author.Tests.{not-true, not-false}
-use Rattle.writer.proofs.Checks.{held-done, held-refused, not-held}
+use Rattle.writer.proofs.Checks.{bad-time, good-time, no-time}
 use borrow.Author.Needs.{needs}
 use Rattle.writer.proofs.writing.time_code_size.Statement.{statement}
 use Rattle.writer.proofs.writing.time_code_size.Tie as tie
@@ -11,7 +11,7 @@ done-requires : tie.Need-done-requires
 done-requires c κs = search needs
 
 returns : tie.Need-returns
-returns c = c .done .ensures ∙ not-held _ _ _ (not-true _ (c .before .if1 .taken))
+returns c = c .done .ensures ∙ no-time (c .before .before .before .args .time-code) (not-true _ (c .before .if1 .taken))
 
 to-bytes-requires : tie.Need-to-bytes-requires
 to-bytes-requires c κs = search needs
@@ -20,13 +20,13 @@ is-done-requires : tie.Need-is-done-requires
 is-done-requires c κs = search needs
 
 returns-2 : tie.Need-returns-2
-returns-2 c = ?
+returns-2 c = rw (c .before .before .before .to-bytes .ensures) (bad-time (c .before .before .before .before .before .before .before .args .time-code) (not-false _ (c .before .before .before .before .before .if1 .left)) (rw (c .before .before .before .to-bytes .ensures) at (sym (c .before .is-done .ensures) ∙ not-true _ (c .if2 .taken))))
 
 done-requires-2 : tie.Need-done-requires-2
 done-requires-2 c κs = search needs
 
 returns-3 : tie.Need-returns-3
-returns-3 c = ?
+returns-3 c = c .done2 .ensures ∙ good-time (c .before .before .before .before .before .before .before .before .args .time-code) (not-false _ (c .before .before .before .before .before .before .if1 .left)) (rw (c .before .before .before .before .to-bytes .ensures) at (sym (c .before .before .is-done .ensures) ∙ not-false _ (c .before .if2 .left)))
 
 pub time-code-size-spec : {M : Type 1} → statement M
 time-code-size-spec =

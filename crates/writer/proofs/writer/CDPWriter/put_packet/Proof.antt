@@ -1,55 +1,68 @@
+-- `writer::CDPWriter::put_packet`: header, time code, captions, services and footer, one behind the other.
+-- Assumes nothing.
+use mathlib.Core.List.{List}
+use mathlib.Core.Path.{_∙_, ap, ap₂}
+use Prim.Native.Nat.{ℕ}
+use native.Mathlib.Omega.{arith}
+use lib.ListN.{length}
+use Rattle.values.specs.Bytes.{put}
+use Rattle.writer.proofs.Checks.{accepted, known-id, length-most}
+use Rattle.writer.proofs.Parts.{packet-put}
+use Rattle.writer.specs.Writing.{headerBytes}
+use Rattle.values.specs.declared.flags.Flags.{Flags}
 use borrow.Author.Needs.{needs}
 use Rattle.writer.proofs.writer.CDPWriter.put_packet.Statement.{statement}
 use Rattle.writer.proofs.writer.CDPWriter.put_packet.Tie as tie
-use Rattle.writer.proofs.writer.CDPWriter.put_packet.Reads as reads
-use Rattle.writer.proofs.writer.CDPWriter.put_packet.Lts as lts
-use Rattle.values.proofs.put.Reads as put-reads
-use Rattle.writer.proofs.writer.CDPWriter.flags.Reads as flags-reads
-use Rattle.writer.proofs.writing.header_bytes.Reads as header-bytes-reads
-use Rattle.writer.proofs.writing.put_cc_data.Reads as put-cc-data-reads
-use Rattle.writer.proofs.writing.put_footer.Reads as put-footer-reads
-use Rattle.writer.proofs.writing.put_svc_info.Reads as put-svc-info-reads
-use Rattle.writer.proofs.writing.put_time_code.Reads as put-time-code-reads
 
--- src/writing.rt:92:52
 flags-requires : tie.Need-flags-requires
 flags-requires c κs = search needs
 
--- src/writing.rt:92:22
 header-bytes-requires : tie.Need-header-bytes-requires
-header-bytes-requires c κs = ?
+header-bytes-requires c κs =
+    let s = c .before .before .before .before .before in
+    (omega (arith, length-most (s .args .self) (s .args .framerate) (length (s .args .captions .now)) (s .pre .0), s .pre .1 .0), known-id (s .args .framerate) (accepted (s .args .self) (s .args .framerate) (length (s .args .captions .now)) (s .pre .0) .rated))
 
--- src/writing.rt:93:21
 slice-aggregate-put : tie.Need-slice-aggregate-put
 slice-aggregate-put c = search needs
 
--- src/writing.rt:93:9
 put-requires : tie.Need-put-requires
 put-requires c κs = search needs
 
--- src/writing.rt:94:13
 put-time-code-requires : tie.Need-put-time-code-requires
-put-time-code-requires c κs = ?
+put-time-code-requires c κs =
+    let s = c .before .before .before .before .before .before .before .before .before .before .before .before in
+    (accepted (s .args .self) (s .args .framerate) (length (s .args .captions .now)) (s .pre .0) .timed, omega (arith, c .before .before .before .put .kept .0, s .pre .1 .0, s .pre .1 .1))
 
--- src/writing.rt:95:13
 put-cc-data-requires : tie.Need-put-cc-data-requires
-put-cc-data-requires c κs = ?
+put-cc-data-requires c κs =
+    let s = c .before .before .before .before .before .before .before .before .before .before .before .before .before .before .before .before in
+    (accepted (s .args .self) (s .args .framerate) (length (s .args .captions .now)) (s .pre .0) .short, omega (arith, c .before .before .before .put-time-code .ensures .0, c .before .before .before .put-time-code .kept .1 .1 .0, c .before .before .before .before .before .before .before .put .kept .0, s .pre .1 .0, s .pre .1 .1))
 
--- src/writing.rt:96:13
 put-svc-info-requires : tie.Need-put-svc-info-requires
-put-svc-info-requires c κs = ?
+put-svc-info-requires c κs =
+    let s = c .before .before .before .before .before .before .before .before .before .before .before .before .before .before .before .before .before .before .before .before in
+    (accepted (s .args .self) (s .args .framerate) (length (s .args .captions .now)) (s .pre .0) .served, omega (arith, c .before .before .before .put-cc-data .ensures .0, c .before .before .before .put-cc-data .kept .1 .1 .0, c .before .before .before .before .before .before .before .put-time-code .ensures .0, c .before .before .before .before .before .before .before .put-time-code .kept .1 .1 .0, c .before .before .before .before .before .before .before .before .before .before .before .put .kept .0, s .pre .1 .0, s .pre .1 .1))
 
--- src/writing.rt:97:9
 put-footer-requires : tie.Need-put-footer-requires
 put-footer-requires c κs = search needs
 
--- src/writing.rt:84:5
 same-length : tie.Need-same-length
 same-length c = search needs
 
--- src/writing.rt:84:5
 returns : tie.Need-returns
-returns c = ?
+returns c =
+    let s = c .before .before .before .before .before .before .before .before .before .before .before .before .before .before .before .before .before .before .before .before .before .before .before .before .before .before .before in
+    let w = s .args .self in
+    let rate = s .args .framerate in
+    let buffer = s .args .out .now in
+    let header =
+    c .before .before .before .before .before .before .before .before .before .before .before .before .before .before .before .before .before .before .before .before .before .header-bytes .ensures ∙ ap₂ (λ (n : ℕ) (f : Flags). headerBytes n rate f (w .sequence)) (s .pre .1 .0) (c .before .before .before .before .before .before .before .before .before .before .before .before .before .before .before .before .before .before .before .before .before .before .flags .ensures) in
+    packet-put w rate (s .args .captions .now) buffer _ _ _ _ _ _ _ _ (omega (arith, s .pre .1 .0, s .pre .1 .1))
+    (c .before .before .before .before .before .before .before .before .before .before .before .before .before .before .before .before .before .before .put .ensures ∙ ap (λ (h : List ℕ). put 0 h buffer) header)
+    (c .before .before .before .before .before .before .before .before .before .before .before .before .before .before .put-time-code .ensures)
+    (c .before .before .before .before .before .before .before .before .before .before .put-cc-data .ensures)
+    (c .before .before .before .before .before .before .put-svc-info .ensures)
+    (c .before .before .put-footer .ensures)
 
 pub put-packet-spec : {M : Type 1} → statement M
 put-packet-spec =
