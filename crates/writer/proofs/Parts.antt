@@ -15,7 +15,6 @@ use Rattle.values.specs.Check.{Verdict, clear, ifClear, sizeWhen, verdict}
 use Rattle.values.specs.Checksum.{negative, total}
 use Rattle.values.specs.Packet.{captionsId, timeCodeId}
 use Rattle.values.specs.Time.{timeBytes, timeWriteChecks, timeWritten}
-use Rattle.entries.specs.Writing.{Written}
 use Rattle.services.proofs.SectionWrites.{section-fits, section-length}
 use Rattle.services.specs.ServiceList.{sectionLength}
 use Rattle.services.specs.Writing.{sectionBytes, sectionWritten, valueChecks}

@@ -5,7 +5,7 @@ use Prim.Native.Nat.{ℕ, _+_, _*_, _/_, _%_}
 use lib.Dec.{eqb, leb}
 use lib.ListN.{length}
 use Rattle.values.specs.Answer.{UnknownFramerate, WrongCaptionRun}
-use Rattle.values.specs.Check.{Check, check, when, sizeWhen, verdict, answer}
+use Rattle.values.specs.Check.{Check, check, when, sizeWhen, verdict}
 use Rattle.values.specs.Checksum.{total, negative}
 use Rattle.values.specs.Flags.{flagByte}
 use Rattle.values.specs.Packet.{timeCodeId, captionsId, footerId}
@@ -16,7 +16,6 @@ use Rattle.entries.specs.Writing.{Written, written, roomCheck}
 use Rattle.services.specs.ServiceList.{sectionLength}
 use Rattle.services.specs.Writing as Section
 use Rattle.services.specs.declared.list.MaybeServiceInfo.{MaybeServiceInfo}
-use Rattle.values.specs.declared.answer.Answer.{Answer}
 use Rattle.values.specs.declared.flags.Flags.{Flags}
 use Rattle.values.specs.declared.framerate.Framerate.{Framerate}
 use Rattle.values.specs.declared.time_code.MaybeTimeCode.{MaybeTimeCode}

@@ -37,15 +37,8 @@ impl CDPWriter {
         ensures { λ r. ⌜ r ≡ Writer.setTimeCode self «time_code» ⌝ }
     {
         let service_info = self.service_info;
-        if !time_code.present {
-            return Self {
-                time_code: MaybeTimeCode::ABSENT,
-                service_info,
-                sequence: self.sequence,
-            };
-        }
         Self {
-            time_code,
+            time_code: held_time(time_code),
             service_info,
             sequence: self.sequence,
         }
@@ -55,21 +48,15 @@ impl CDPWriter {
     pub fn set_service_info(self, service_info: MaybeServiceInfo) -> CDPWriterSet
         ensures { λ r. ⌜ r ≡ Writer.setServiceInfo self «service_info» ⌝ }
     {
-        if !service_info.present {
+        let answer = count_checked(service_info);
+        if !answer.is_done() {
             return CDPWriterSet {
-                answer: Answer::done(0),
-                writer: self.holding(MaybeServiceInfo::absent()),
-            };
-        }
-        let list = service_info.service_info;
-        if ServiceInfo::PLACES < list.count {
-            return CDPWriterSet {
-                answer: Answer::WOULD_OVERFLOW,
+                answer,
                 writer: self,
             };
         }
         CDPWriterSet {
-            answer: Answer::done(0),
+            answer,
             writer: self.holding(service_info),
         }
     }
@@ -80,7 +67,7 @@ impl CDPWriter {
         let time_code = self.time_code;
         Self {
             time_code,
-            service_info,
+            service_info: held_list(service_info),
             sequence: self.sequence,
         }
     }
@@ -103,4 +90,38 @@ impl CDPWriter {
     {
         Self::new()
     }
+}
+
+// An absent time code is held as zeros.
+fn held_time(time_code: MaybeTimeCode) -> MaybeTimeCode
+    ensures { λ r. ⌜ r ≡ Writer.heldTime «time_code» ⌝ }
+{
+    if !time_code.present {
+        return MaybeTimeCode::ABSENT;
+    }
+    time_code
+}
+
+// An absent list is held as the empty one.
+fn held_list(service_info: MaybeServiceInfo) -> MaybeServiceInfo
+    ensures { λ r. ⌜ r ≡ Writer.heldList «service_info» ⌝ }
+{
+    if !service_info.present {
+        return MaybeServiceInfo::absent();
+    }
+    service_info
+}
+
+// Whether a list that is there counts up to 15.
+fn count_checked(service_info: MaybeServiceInfo) -> Answer
+    ensures { λ r. ⌜ r ≡ Writer.countAnswer «service_info» ⌝ }
+{
+    if !service_info.present {
+        return Answer::done(0);
+    }
+    let list = service_info.service_info;
+    if ServiceInfo::PLACES < list.count {
+        return Answer::WOULD_OVERFLOW;
+    }
+    Answer::done(0)
 }

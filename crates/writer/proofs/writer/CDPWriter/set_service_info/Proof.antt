@@ -1,44 +1,27 @@
--- `writer::CDPWriter::set_service_info`: empty where it is absent, refused where it counts over 15.
+-- `writer::CDPWriter::set_service_info`: held, or the writer as it was.
 -- Assumes nothing.
+use mathlib.Core.Path.{_∙_, sym}
 use borrow.Author.Tests.{not-true, not-false}
-use Rattle.writer.proofs.Setters.{count-over, no-list, some-list}
+use Rattle.writer.proofs.Setters.{is-set, not-set}
 use borrow.Author.Needs.{needs}
 use Rattle.writer.proofs.writer.CDPWriter.set_service_info.Statement.{statement}
 use Rattle.writer.proofs.writer.CDPWriter.set_service_info.Tie as tie
 
-done-requires : tie.Need-done-requires
-done-requires c κs = search needs
+count-checked-requires : tie.Need-count-checked-requires
+count-checked-requires c κs = search needs
 
-absent-requires : tie.Need-absent-requires
-absent-requires c κs = search needs
+is-done-requires : tie.Need-is-done-requires
+is-done-requires c κs = search needs
+
+returns : tie.Need-returns
+returns c = let e = c .before .before .count-checked .ensures in rw e (not-set _ _ (rw e at (sym (c .before .is-done .ensures) ∙ not-true _ (c .if1 .taken))))
 
 holding-requires : tie.Need-holding-requires
 holding-requires c κs = search needs
 
-returns : tie.Need-returns
-returns c = rw (c .before .before .done .ensures, c .holding .ensures, c .before .absent .ensures) (no-list _ _ (not-true _ (c .before .before .before .if1 .taken)))
-
 returns-2 : tie.Need-returns-2
-returns-2 c = count-over _ _ (not-false _ (c .before .before .before .if1 .left)) (c .if2 .taken)
-
-done-requires-2 : tie.Need-done-requires-2
-done-requires-2 c κs = search needs
-
-holding-requires-2 : tie.Need-holding-requires-2
-holding-requires-2 c κs = search needs
-
-returns-3 : tie.Need-returns-3
-returns-3 c = rw (c .before .done2 .ensures, c .holding2 .ensures) (some-list _ _ (not-false _ (c .before .before .before .before .before .if1 .left)) (c .before .before .if2 .left))
+returns-2 c = let e = c .before .before .before .count-checked .ensures in rw (e, c .holding .ensures) (is-set _ _ (rw e at (sym (c .before .before .is-done .ensures) ∙ not-false _ (c .before .if1 .left))))
 
 pub set-service-info-spec : {M : Type 1} → statement M
 set-service-info-spec =
-    tie.close
-    (tie.spec
-    done-requires
-    absent-requires
-    holding-requires
-    returns
-    returns-2
-    done-requires-2
-    holding-requires-2
-    returns-3)
+    tie.close (tie.spec count-checked-requires is-done-requires returns holding-requires returns-2)
