@@ -1,0 +1,1 @@
+// No code: definitions and theorems that speak of several layers at once.
