@@ -133,7 +133,7 @@ module _ (p : List ℕ) where
       }
 
   -- the packet's verdict is theirs, in order
-  in-order : verdict (packetChecks p) ≡ andThen header (andThen timeCode (andThen ccData (andThen svcInfo closing)))
+  pub in-order : verdict (packetChecks p) ≡ andThen header (andThen timeCode (andThen ccData (andThen svcInfo closing)))
   unfolding packetChecks
   in-order =
       five-parts (headerChecks p)

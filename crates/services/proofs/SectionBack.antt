@@ -33,7 +33,7 @@ use Rattle.entries.proofs.EntryWrites.{first-bytes}
 use Rattle.entries.proofs.EntryBack.{all-set, number-high, service-back, entry-clear, entry-of-back}
 
 -- clear, or 7 where the entries name field 2
-abbrev named : Bool → Verdict
+abbrev pub named : Bool → Verdict
 named two = cond two (broken ServiceNumberMismatch) clear
 
 -- the header byte of a number: bit 80 is set, bit 40 is clear, the low six are the number
@@ -153,7 +153,7 @@ bits-back false true false n h = omega arith
 bits-back false false true n h = omega arith
 bits-back false false false n h = omega arith
 
-bit-back : (b : ℕ) (on : Bool) → b ≡ flag on 1 → eqb b 1 ≡ on
+pub bit-back : (b : ℕ) (on : Bool) → b ≡ flag on 1 → eqb b 1 ≡ on
 bit-back b true h = rw h
 bit-back b false h = rw h
 
@@ -175,13 +175,16 @@ module _ (l : ServiceInfo) (r : Ready l) where
   fixed-set : allSet x80 (sectionByte l) ≡ true
   fixed-set = all-set x80 (sectionByte l) (one .fixed)
 
+  pub count-back : under x0F (sectionByte l) ≡ l .count
+  count-back = one .low
+
   entries-count : under x0F (sectionByte l) ≡ length (counted l)
-  entries-count = one .low ∙ sym (counted-length l)
+  entries-count = count-back ∙ sym (counted-length l)
 
   entry-bytes-length : length (entryListBytes (counted l)) ≡ 7 * under x0F (sectionByte l)
   entry-bytes-length = rw entries-count (bytes-length (counted l))
 
-  section-verdict : verdict (sectionChecks (sectionBytes l)) ≡ named (namesFieldTwo (counted l))
+  pub section-verdict : verdict (sectionChecks (sectionBytes l)) ≡ named (namesFieldTwo (counted l))
   unfolding sectionChecks sectionBytes
   section-verdict =
       verdict-append (frameChecks (sectionBytes l)) (entryListChecks (sectionBytes l) 2 (countOf (sectionBytes l)))
@@ -194,7 +197,7 @@ module _ (l : ServiceInfo) (r : Ready l) where
   unfolding sectionBytes
   entries-same = rw entries-count (entries-back (sectionBytes l) 2 (counted l) refl (r .numbers) (r .languages))
 
-  list-back : listOf (sectionBytes l) ≡ list (l .start) (l .change) (l .complete) (filled (counted l)) (l .count)
+  pub list-back : listOf (sectionBytes l) ≡ list (l .start) (l .change) (l .complete) (filled (counted l)) (l .count)
   unfolding listOf sectionBytes
   list-back =
       let start : allSet x40 (sectionByte l) ≡ l .start = bit-back _ _ (one .first) in

@@ -1,1 +1,7 @@
+pub mod Places
+pub mod HeaderBack
+pub mod SectionsBack
+pub mod FooterBack
+pub mod PartsBack
+pub mod RoundTrip
 pub mod Cases

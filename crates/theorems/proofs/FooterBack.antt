@@ -1,0 +1,43 @@
+-- The footer read back: the sequence again, and the checksum of all before it.
+-- Assumes nothing.
+use mathlib.Core.List.{List, [], _∷_, _++_}
+use mathlib.Core.Path.{_≡_, _∙_, sym, ap}
+use Prim.Native.Nat.{ℕ, _+_, _-_, _*_}
+use native.Mathlib.Nat.{add-zero}
+use native.Mathlib.Omega.{arith}
+use lib.Dec.{eqb}
+use lib.ListN.{drop, length, length-append}
+use lib.Seq.{take-at}
+use Rattle.values.proofs.Verdicts.{done-clear}
+use Rattle.values.specs.Bytes.{byte}
+use Rattle.values.specs.Check.{clear, verdict}
+use Rattle.values.specs.Checksum.{negative, total}
+use Rattle.values.specs.Packet.{footerId}
+use Rattle.footer.proofs.ClosingReads.{begins, footer-reached, footer-whole}
+use Rattle.footer.specs.Footer.{checksumOf, closingChecks, closingRead}
+use Rattle.writer.specs.Writing.{footerBytes}
+use Rattle.theorems.proofs.Places.{byte-on}
+use Rattle.values.specs.declared.answer.Answer.{Answer}
+
+-- all bytes but the last are those that were summed up
+pub checksum-is : (bytes : List ℕ) (last : ℕ) → checksumOf (bytes ++ last ∷ []) ≡ negative (total bytes)
+checksum-is bytes last =
+    ap (λ (xs : List ℕ). negative (total xs))
+    (take-at bytes (last ∷ []) (length (bytes ++ last ∷ []) - 1) (simp (length-append) (omega arith)))
+
+module _ (p : List ℕ) (i sequence sum : ℕ) (h : drop i p ≡ footerBytes sequence ++ sum ∷ []) (size : length p ≡ i + 4) (right : sum ≡ checksumOf p) where
+  abbrev bytes : List ℕ
+  bytes = footerBytes sequence ++ sum ∷ []
+
+  id : byte p i ≡ footerId
+  id = rw add-zero at (byte-on p i bytes h 0)
+
+  same : byte p (i + 1) * 256 + byte p (i + 2) ≡ sequence
+  same = rw (byte-on p i bytes h 1, byte-on p i bytes h 2) (omega arith)
+
+  pub closing-clear : verdict (closingChecks p sequence i) ≡ clear
+  unfolding closingRead
+  closing-clear =
+      let whole = footer-whole p sequence i (omega (arith, size)) same (byte-on p i bytes h 3 ∙ right) in
+      let read = whole ∙ footer-reached p sequence i i (begins p sequence i (omega (arith, size))) id in
+      done-clear (verdict (closingChecks p sequence i)) 0 (ap (λ (a : Answer). eqb (a .number) 0) (sym read))

@@ -1,0 +1,65 @@
+-- A part that may be held, read back: what its flag, its checks and its size come to where it stands, or where nothing does.
+-- Assumes nothing.
+use mathlib.Core.Bool.{Bool, true, false, cond, _&&_}
+use mathlib.Core.List.{List, [], _∷_, _++_}
+use mathlib.Core.Path.{_≡_, refl, ap}
+use Prim.Native.Nat.{ℕ, _+_, _≤_}
+use lib.Dec.{eqb}
+use lib.ListN.{drop, length}
+use Rattle.values.specs.Check.{Verdict, answer, clear, sizeWhen, verdict, when}
+use Rattle.values.specs.Packet.{timeCodeId}
+use Rattle.values.specs.Time.{timeBytes, timePresent, timeWriteChecks}
+use Rattle.services.proofs.SectionBack.{named}
+use Rattle.services.proofs.SectionWrites.{value-done}
+use Rattle.services.specs.RoundTrip.{Ready, allOfThree, namesFieldTwo}
+use Rattle.services.specs.Section.{listOf}
+use Rattle.services.specs.ServiceList.{listAbsent, listPresent, sectionLength}
+use Rattle.services.specs.Writing.{counted, sectionBytes, valueAnswer, valueChecks}
+use Rattle.sections.specs.TimeCode.{timeCodeChecks, timeCodeOf}
+use Rattle.svc_section.specs.SvcInfo.{svcInfoBytes, svcInfoChecks, svcInfoSize}
+use Rattle.writer.specs.Writer.{heldTime}
+use Rattle.theorems.proofs.SectionsBack.{list-value, section-size, services-verdict, time-clear, time-value}
+use Rattle.theorems.specs.RoundTrip.{listBack}
+use Rattle.services.specs.declared.list.ServiceInfo.{ServiceInfo}
+use Rattle.values.specs.declared.flags.Flags.{Flags}
+use Rattle.values.specs.declared.time_code.TimeCode.{TimeCode}
+
+-- the time code
+pub record TimeHere (p : List ℕ) (i : ℕ) (present : Bool) (t : TimeCode) : Type 0 where
+  pub right : verdict (when present (timeCodeChecks p i)) ≡ clear
+  pub shown : timeCodeOf p present i ≡ heldTime (record { present = present; «time_code» = t })
+
+pub time-here : (p : List ℕ) (i : ℕ) (present : Bool) (t : TimeCode) (rest : List ℕ) → drop i p ≡ cond present (timeCodeId ∷ timeBytes t) [] ++ rest
+    → verdict (when present (timeWriteChecks t)) ≡ clear → i + sizeWhen present 5 ≤ length p → TimeHere p i present t
+time-here p i true t rest h right fits = record { right = time-clear p i t rest h right fits; shown = ap timePresent (time-value p i t rest h right) }
+time-here p i false t rest h right fits = record { right = refl; shown = refl }
+
+-- the list: what writing asks of it, with languages of three bytes, is what reading it back asks
+ready : (l : ServiceInfo) → verdict (valueChecks l) ≡ clear → allOfThree (counted l) ≡ true → Ready l
+unfolding valueAnswer
+ready l right languages =
+    let both = value-done l (ap (λ (v : Verdict). eqb (answer v 0 .number) 0) right) in
+    record { count = both .0; languages = languages; numbers = both .1 }
+
+-- the header's flags are the list's
+pub record FlagsOf (f : Flags) (present : Bool) (l : ServiceInfo) : Type 0 where
+  pub start : f .«svc_info_start» ≡ (present && l .start)
+  pub change : f .«svc_info_change» ≡ (present && l .change)
+  pub complete : f .«svc_info_complete» ≡ (present && l .complete)
+
+pub record ServicesHere (p : List ℕ) (i : ℕ) (f : Flags) (present : Bool) (l : ServiceInfo) : Type 0 where
+  pub answered : verdict (when present (svcInfoChecks p f i)) ≡ named (present && namesFieldTwo (counted l))
+  pub shown : cond present (listPresent (listOf (svcInfoBytes p i))) listAbsent ≡ cond present (listPresent (listBack l)) listAbsent
+  pub size : sizeWhen present (svcInfoSize p i) ≡ sizeWhen present (sectionLength (l .count))
+
+pub services-here : (p : List ℕ) (i : ℕ) (f : Flags) (present : Bool) (l : ServiceInfo) (rest : List ℕ) → FlagsOf f present l
+    → drop i p ≡ cond present (sectionBytes l) [] ++ rest → verdict (when present (valueChecks l)) ≡ clear
+    → (present ≡ true → allOfThree (counted l) ≡ true) → i + sizeWhen present (sectionLength (l .count)) ≤ length p → ServicesHere p i f present l
+services-here p i f true l rest flags h right languages fits =
+    let r : Ready l = ready l right (languages refl) in
+    record {
+      answered = services-verdict p i l rest h r f (flags .start) (flags .change) (flags .complete) fits;
+      shown = ap listPresent (list-value p i l rest h r);
+      size = section-size p i l rest h r;
+    }
+services-here p i f false l rest flags h right languages fits = record { answered = refl; shown = refl; size = refl }

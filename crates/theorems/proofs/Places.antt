@@ -1,0 +1,19 @@
+-- What stands from a place on: its bytes, and what stands further on.
+-- Assumes nothing.
+use mathlib.Core.List.{List, _++_}
+use mathlib.Core.Path.{_≡_, _∙_, sym, ap}
+use Prim.Native.Nat.{ℕ, _+_}
+use lib.ListN.{drop, length, take}
+use lib.Seq.{drop-append-seam, drop-drop, getD-drop, take-append-seam}
+use Rattle.values.specs.Bytes.{byte, part}
+
+module _ (p : List ℕ) (i : ℕ) where
+  pub byte-on : (xs : List ℕ) → drop i p ≡ xs → (j : ℕ) → byte p (i + j) ≡ byte xs j
+  byte-on xs h j = sym (getD-drop i p j 0) ∙ ap (λ (ys : List ℕ). byte ys j) h
+
+  module _ (xs ys : List ℕ) (h : drop i p ≡ xs ++ ys) (n : ℕ) (long : n ≡ length xs) where
+    pub part-on : part i n p ≡ xs
+    part-on = ap (take n) h ∙ ap (λ (m : ℕ). take m (xs ++ ys)) long ∙ take-append-seam xs ys
+
+    pub further-on : drop (i + n) p ≡ ys
+    further-on = sym (drop-drop n i p) ∙ ap (drop n) h ∙ ap (λ (m : ℕ). drop m (xs ++ ys)) long ∙ drop-append-seam xs ys

@@ -1,0 +1,245 @@
+-- Demand 2's round trip: reading what was written gives the values back, or is answered 7 where field 2 is named.
+-- Assumes nothing.
+use mathlib.Core.Bool.{Bool, true, false, cond}
+use mathlib.Core.List.{List, [], _∷_, _++_, append-assoc}
+use mathlib.Core.Path.{_≡_, _∙_, sym, refl, ap, ap₂}
+use Prim.Native.Nat.{ℕ, _+_, _≤_}
+use native.Mathlib.Omega.{arith}
+use borrow.Author.Tests.{le-leb}
+use lib.Dec.{eqb}
+use lib.ListN.{drop, length, take}
+use Rattle.values.specs.Answer.{ServiceNumberMismatch, refused}
+use Rattle.values.specs.Bytes.{over}
+use Rattle.values.specs.Check.{answer, clear, ifClear, sizeWhen, verdict, when}
+use Rattle.values.specs.Checksum.{negative, total}
+use Rattle.values.specs.Rate.{present}
+use Rattle.values.proofs.Verdicts.{andThen}
+use Rattle.entries.proofs.EntryWrites.{first-bytes}
+use Rattle.entries.specs.Writing.{Written}
+use Rattle.services.proofs.SectionBack.{named}
+use Rattle.services.specs.RoundTrip.{allOfThree}
+use Rattle.services.specs.Writing.{counted}
+use Rattle.sections.specs.CcData.{ccDataChecks, ccDataSize, handedOut}
+use Rattle.sections.specs.Header.{flagsIn, headerChecks, rateOf, sequenceIn}
+use Rattle.sections.specs.TimeCode.{timeCodeChecks, timeCodeOf}
+use Rattle.footer.specs.Footer.{checksumOf, closingChecks}
+use Rattle.svc_section.specs.SvcInfo.{svcInfoChecks, svcInfoOf, svcInfoSize}
+use Rattle.reader.proofs.PacketReads.{in-order}
+use Rattle.reader.specs.Packet.{captionLength, ccDataAt, closingAt, packetChecks, shownBy, svcInfoAt}
+use Rattle.reader.specs.Reader.{bufferAfter, captionsOf, cleared, read}
+use Rattle.writer.proofs.Checks.{Accepted, accepted}
+use Rattle.writer.proofs.PacketWrites.{packet-done}
+use Rattle.writer.proofs.Parts.{packet-length, services-length, time-length}
+use Rattle.writer.specs.Writer.{heldTime}
+use Rattle.writer.specs.Writing as Writing
+use Rattle.writer.specs.Writing.{ccDataBytes, flagsOf, footerBytes, headerBytes, packetBytes, packetLength, packetWritten, summedBytes, svcInfoBytes, timeCodeBytes}
+use Rattle.theorems.proofs.FooterBack.{checksum-is, closing-clear}
+use Rattle.theorems.proofs.HeaderBack.{flags-back, header-clear, rate-back, sequence-back}
+use Rattle.theorems.proofs.PartsBack.{ServicesHere, TimeHere, services-here, time-here}
+use Rattle.theorems.proofs.Places.{further-on}
+use Rattle.theorems.proofs.SectionsBack.{captions-clear, captions-value, size-is}
+use Rattle.theorems.specs.RoundTrip.{ReadBack, captionsBack, fieldTwo, servicesBack, shownBack, writtenPacket}
+use Rattle.reader.specs.declared.parser.CDPParser.{CDPParser}
+use Rattle.services.specs.declared.list.ServiceInfo.{ServiceInfo}
+use Rattle.values.specs.declared.flags.Flags.{Flags}
+use Rattle.values.specs.declared.framerate.Framerate.{Framerate}
+use Rattle.writer.specs.declared.writer.CDPWriter.{CDPWriter}
+
+six : (a b c d e f : List ℕ) → a ++ b ++ c ++ d ++ e ++ f ≡ a ++ (b ++ (c ++ (d ++ (e ++ f))))
+six a b c d e f =
+    append-assoc (a ++ b ++ c ++ d) e f
+    ∙ append-assoc (a ++ b ++ c) d (e ++ f)
+    ∙ append-assoc (a ++ b) c (d ++ (e ++ f))
+    ∙ append-assoc a b (c ++ (d ++ (e ++ f)))
+
+ends : (two : Bool) → andThen (named two) clear ≡ named two
+ends true = refl
+ends false = refl
+
+-- a packet that can be written, in which every language of a held list has its three bytes, as its type says
+module _ (w : CDPWriter) (rate : Framerate) (captions : List ℕ)
+    (right : verdict (Writing.packetChecks w rate (length captions)) ≡ clear)
+    (languages : w .«service_info» .present ≡ true → allOfThree (counted (w .«service_info» .«service_info»)) ≡ true) where
+  abbrev run : ℕ
+  run = length captions
+
+  abbrev list : ServiceInfo
+  list = w .«service_info» .«service_info»
+
+  abbrev p : List ℕ
+  p = packetBytes w rate captions
+
+  abbrev sum : ℕ
+  sum = negative (total (summedBytes w rate captions))
+
+  holds : Accepted w rate run
+  holds = accepted w rate run right
+
+  -- the parts, and what stands from each of them on
+  abbrev header : List ℕ
+  header = headerBytes (packetLength w run) rate (flagsOf w) (w .sequence)
+
+  abbrev fourth : List ℕ
+  fourth = footerBytes (w .sequence) ++ sum ∷ []
+
+  abbrev third : List ℕ
+  third = svcInfoBytes (w .«service_info») ++ fourth
+
+  abbrev second : List ℕ
+  second = ccDataBytes captions ++ third
+
+  abbrev first : List ℕ
+  first = timeCodeBytes (w .«time_code») ++ second
+
+  abbrev captionsFrom : ℕ
+  captionsFrom = 7 + Writing.timeCodeSize (w .«time_code»)
+
+  abbrev servicesFrom : ℕ
+  servicesFrom = captionsFrom + (2 + run)
+
+  abbrev footerFrom : ℕ
+  footerFrom = servicesFrom + Writing.svcInfoSize (w .«service_info»)
+
+  laid : p ≡ header ++ first
+  unfolding packetBytes
+  laid = six header (timeCodeBytes (w .«time_code»)) (ccDataBytes captions) (svcInfoBytes (w .«service_info»)) (footerBytes (w .sequence)) (sum ∷ [])
+
+  long : length p ≡ footerFrom + 4
+  long = packet-length w rate captions
+
+  at-time : drop 7 p ≡ first
+  at-time = ap (drop 7) laid
+
+  at-captions : drop captionsFrom p ≡ second
+  at-captions = further-on p 7 (timeCodeBytes (w .«time_code»)) second at-time (Writing.timeCodeSize (w .«time_code»)) (sym (time-length (w .«time_code»)))
+
+  at-services : drop servicesFrom p ≡ third
+  at-services = further-on p captionsFrom (ccDataBytes captions) third at-captions (2 + run) (omega arith)
+
+  at-footer : drop footerFrom p ≡ fourth
+  at-footer = further-on p servicesFrom (svcInfoBytes (w .«service_info»)) fourth at-services (Writing.svcInfoSize (w .«service_info»)) (sym (services-length (w .«service_info»)))
+
+  -- the header
+  flags : flagsIn p ≡ flagsOf w
+  flags = ap flagsIn laid ∙ flags-back (flagsOf w)
+
+  sequence : sequenceIn p ≡ w .sequence
+  sequence = ap sequenceIn laid ∙ sequence-back (packetLength w run) rate (flagsOf w) (w .sequence) first
+
+  rated : rateOf p ≡ present rate
+  rated = ap rateOf laid ∙ rate-back (packetLength w run) rate (flagsOf w) (w .sequence) first (holds .rated)
+
+  header-right : verdict (headerChecks p) ≡ clear
+  header-right =
+      let size : length (header ++ first) ≡ packetLength w run = ap length (sym laid) ∙ packet-length w rate captions in
+      ap (λ (q : List ℕ). verdict (headerChecks q)) laid
+      ∙ header-clear (packetLength w run) rate (flagsOf w) (w .sequence) first (holds .rated) (omega (arith, size)) (sym size)
+
+  -- the time code
+  time : TimeHere p 7 (w .«time_code» .present) (w .«time_code» .«time_code»)
+  time = time-here p 7 (w .«time_code» .present) (w .«time_code» .«time_code») second at-time (holds .timed) (omega (arith, long))
+
+  -- the captions
+  captions-at : ccDataAt p ≡ captionsFrom
+  captions-at = ap (λ (f : Flags). 7 + sizeWhen (f .«time_code») 5) flags
+
+  captions-right : verdict (when (flagsIn p .«cc_data») (ccDataChecks p (ccDataAt p))) ≡ clear
+  captions-right =
+      ap₂ (λ (f : Flags) (i : ℕ). verdict (when (f .«cc_data») (ccDataChecks p i))) flags captions-at
+      ∙ captions-clear p captionsFrom captions third at-captions (holds .short) (holds .whole) (omega (arith, long))
+
+  captions-long : captionLength p ≡ 2 + run
+  captions-long =
+      ap₂ (λ (f : Flags) (i : ℕ). sizeWhen (f .«cc_data») (ccDataSize p i)) flags captions-at
+      ∙ size-is p captionsFrom captions third at-captions (holds .short) (holds .whole)
+
+  captions-handed : captionsOf p ≡ captionsBack captions
+  captions-handed =
+      ap₂ (λ (f : Flags) (i : ℕ). cond (f .«cc_data») (handedOut p i) []) flags captions-at
+      ∙ captions-value p captionsFrom captions third at-captions (holds .short) (holds .whole)
+
+  -- the services
+  services-at : svcInfoAt p ≡ servicesFrom
+  services-at = ap₂ (λ (i n : ℕ). i + n) captions-at captions-long
+
+  services : ServicesHere p servicesFrom (flagsOf w) (w .«service_info» .present) list
+  services =
+      services-here p servicesFrom (flagsOf w) (w .«service_info» .present) list fourth (record { start = refl; change = refl; complete = refl }) at-services (holds .served) languages (omega (arith, long))
+
+  services-right : verdict (when (flagsIn p .«svc_info») (svcInfoChecks p (flagsIn p) (svcInfoAt p))) ≡ named (fieldTwo (w .«service_info»))
+  services-right = ap₂ (λ (f : Flags) (i : ℕ). verdict (when (f .«svc_info») (svcInfoChecks p f i))) flags services-at ∙ services .answered
+
+  services-shown : svcInfoOf p (flagsIn p) (svcInfoAt p) ≡ servicesBack (w .«service_info»)
+  services-shown = ap₂ (λ (f : Flags) (i : ℕ). svcInfoOf p f i) flags services-at ∙ services .shown
+
+  -- the footer
+  footer-at : closingAt p ≡ footerFrom
+  footer-at =
+      ap₂ (λ (i n : ℕ). i + n) services-at
+      (ap₂ (λ (f : Flags) (i : ℕ). sizeWhen (f .«svc_info») (svcInfoSize p i)) flags services-at ∙ services .size)
+
+  sum-right : sum ≡ checksumOf p
+  unfolding packetBytes
+  sum-right = sym (checksum-is (summedBytes w rate captions) sum)
+
+  footer-right : verdict (closingChecks p (sequenceIn p) (closingAt p)) ≡ clear
+  footer-right =
+      ap₂ (λ (s i : ℕ). verdict (closingChecks p s i)) sequence footer-at ∙ closing-clear p footerFrom (w .sequence) sum at-footer long sum-right
+
+  -- the whole packet: clear, or 7 where field 2 is named
+  packet-verdict : verdict (packetChecks p) ≡ named (fieldTwo (w .«service_info»))
+  packet-verdict =
+      in-order p
+      ∙ rw (header-right, ap (λ (f : Flags). verdict (when (f .«time_code») (timeCodeChecks p 7))) flags ∙ time .right, captions-right, services-right, footer-right)
+      (ends (fieldTwo (w .«service_info»)))
+
+  shown : shownBy p ≡ shownBack w rate
+  unfolding shownBy
+  shown =
+      let timed : timeCodeOf p (flagsIn p .«time_code») 7 ≡ heldTime (w .«time_code») = ap (λ (f : Flags). timeCodeOf p (f .«time_code») 7) flags ∙ time .shown in
+      rw (rated, timed, sequence, services-shown)
+
+  module _ (s : CDPParser) (lent : List ℕ) (room : 95 ≤ length lent) where
+    got : read s p (length lent)
+        ≡ record {
+          answer = answer (named (fieldTwo (w .«service_info»))) (2 + run);
+          parser = ifClear (named (fieldTwo (w .«service_info»))) (shownBack w rate) (cleared s);
+        }
+    unfolding read
+    got = simp (le-leb 95 (length lent) room, packet-verdict, captions-long, shown)
+
+    after : bufferAfter p lent ≡ ifClear (named (fieldTwo (w .«service_info»))) (over 0 (captionsBack captions) lent) lent
+    unfolding bufferAfter
+    after = simp (le-leb 95 (length lent) room, packet-verdict, captions-handed)
+
+-- what was written is what reading was said of
+module _ (w : CDPWriter) (rate : Framerate) (captions buffer : List ℕ) (done-so : eqb (packetWritten w rate captions buffer .answer .number) 0 ≡ true) where
+  written-is : writtenPacket w rate captions buffer ≡ packetBytes w rate captions
+  written-is =
+      ap (λ (r : Written). take (r .answer .first) (r .buffer)) (packet-done w rate captions buffer done-so .1)
+      ∙ first-bytes (packetBytes w rate captions) buffer
+
+  module _ (languages : w .«service_info» .present ≡ true → allOfThree (counted (w .«service_info» .«service_info»)) ≡ true)
+      (s : CDPParser) (lent : List ℕ) (room : 95 ≤ length lent) where
+    abbrev packet : List ℕ
+    packet = writtenPacket w rate captions buffer
+
+    reads : read s packet (length lent)
+        ≡ record {
+          answer = answer (named (fieldTwo (w .«service_info»))) (2 + length captions);
+          parser = ifClear (named (fieldTwo (w .«service_info»))) (shownBack w rate) (cleared s);
+        }
+    reads = rw written-is (got w rate captions (packet-done w rate captions buffer done-so .0) languages s lent room)
+
+    leaves : bufferAfter packet lent ≡ ifClear (named (fieldTwo (w .«service_info»))) (over 0 (captionsBack captions) lent) lent
+    leaves = rw written-is (after w rate captions (packet-done w rate captions buffer done-so .0) languages s lent room)
+
+    -- Writing was answered 0, and no counted entry of a held list names field 2: reading what was written, on any state and
+    -- with any caption buffer of at least 95 bytes, answers 0 and gives the values back.
+    pub round-trip : fieldTwo (w .«service_info») ≡ false → ReadBack w rate captions lent (read s packet (length lent)) (bufferAfter packet lent)
+    round-trip none = record { read = reads ∙ rw none; handed = leaves ∙ rw none }
+
+    -- Where a counted entry of a held list names field 2, reading is answered 7, and refuses as it refuses any packet.
+    pub field-two-answered-7 : fieldTwo (w .«service_info») ≡ true
+        → (read s packet (length lent) ≡ record { answer = refused ServiceNumberMismatch; parser = cleared s }) × (bufferAfter packet lent ≡ lent)
+    field-two-answered-7 some = (reads ∙ rw some, leaves ∙ rw some)

@@ -1,0 +1,158 @@
+-- Time code, captions and services read back from the place where they stand.
+-- Assumes nothing.
+use mathlib.Core.Bool.{Bool, Bool·beq, true, false}
+use mathlib.Core.List.{List, [], _∷_, _++_}
+use mathlib.Core.Path.{_≡_, _∙_, sym, refl, ap, ap₂}
+use Prim.Native.Nat.{ℕ, _+_, _*_, _/_, _%_, _≤_}
+use native.Mathlib.Nat.{add-zero}
+use native.Mathlib.Omega.{arith}
+use borrow.Author.Tests.{eq-eqb, le-leb, leb-true}
+use lib.Dec.{eqb, leb}
+use lib.ListN.{drop, getD, length}
+use Rattle.values.proofs.TimeWrites.{time-back}
+use Rattle.values.proofs.Verdicts.{andThen, done-clear, done-value, kept-first, kept-rest, verdict-append}
+use Rattle.values.specs.Answer.{NotWritable, ServiceFlagsMismatched}
+use Rattle.values.specs.Bytes.{byte}
+use Rattle.values.specs.Check.{Check, check, clear, verdict}
+use Rattle.values.specs.Packet.{captionsId, servicesId, timeCodeId}
+use Rattle.values.specs.Time.{InRange, noTime, timeBytes, timeChecks, timeOf, timeRead, timeWriteChecks}
+use Rattle.services.proofs.SectionBack.{count-back, list-back, named, section-verdict}
+use Rattle.services.proofs.SectionWrites.{section-length}
+use Rattle.services.specs.RoundTrip.{Ready, namesFieldTwo}
+use Rattle.services.specs.Section.{listOf, sectionChecks}
+use Rattle.services.specs.ServiceList.{sectionLength}
+use Rattle.services.specs.Writing.{counted, sectionByte, sectionBytes}
+use Rattle.sections.specs.CcData.{ccCount, ccDataChecks, ccDataSize, handedOut}
+use Rattle.sections.specs.TimeCode.{timeCodeChecks, timeCodeIn}
+use Rattle.svc_section.specs.SvcInfo.{sameFlags, svcInfoBytes, svcInfoChecks, svcInfoSize}
+use Rattle.writer.specs.Writing.{ccDataBytes}
+use Rattle.theorems.proofs.Places.{byte-on, further-on, part-on}
+use Rattle.theorems.specs.RoundTrip.{captionsBack, listBack}
+use Rattle.services.specs.declared.list.ServiceInfo.{ServiceInfo}
+use Rattle.values.specs.declared.flags.Flags.{Flags}
+use Rattle.values.specs.declared.time_code.TimeCode.{TimeCode}
+use Rattle.values.specs.declared.time_code.TimeCodeRead.{TimeCodeRead}
+
+-- a time code that can be written is in range
+in-range : (t : TimeCode) → verdict (timeWriteChecks t) ≡ clear → InRange t
+in-range t h =
+    let hours : Check = check (leb (t .hours) 39) NotWritable in
+    let minutes : Check = check (leb (t .minutes) 79) NotWritable in
+    let seconds : Check = check (leb (t .seconds) 79) NotWritable in
+    let frames : Check = check (leb (t .frames) 39) NotWritable in
+    let second : verdict (minutes ∷ seconds ∷ frames ∷ []) ≡ clear = kept-rest hours (minutes ∷ seconds ∷ frames ∷ []) h in
+    let third : verdict (seconds ∷ frames ∷ []) ≡ clear = kept-rest minutes (seconds ∷ frames ∷ []) second in
+    record {
+      hours = leb-true _ _ (kept-first hours (minutes ∷ seconds ∷ frames ∷ []) h);
+      minutes = leb-true _ _ (kept-first minutes (seconds ∷ frames ∷ []) second);
+      seconds = leb-true _ _ (kept-first seconds (frames ∷ []) third);
+      frames = leb-true _ _ (kept-first frames [] (kept-rest seconds (frames ∷ []) third));
+    }
+
+module _ (p : List ℕ) (i : ℕ) (t : TimeCode) (rest : List ℕ) (h : drop i p ≡ timeCodeId ∷ timeBytes t ++ rest)
+    (right : verdict (timeWriteChecks t) ≡ clear) where
+  abbrev at : ℕ → ℕ
+  at k = getD (timeBytes t) k 0
+
+  four : verdict (timeChecks (at 0) (at 1) (at 2) (at 3)) ≡ clear
+  unfolding timeRead
+  four = done-clear (verdict (timeChecks (at 0) (at 1) (at 2) (at 3))) 0 (ap (λ (r : TimeCodeRead). eqb (r .answer .number) 0) (time-back t (in-range t right)))
+
+  value : timeOf (at 0) (at 1) (at 2) (at 3) ≡ t
+  unfolding timeRead
+  value =
+      sym (done-value (verdict (timeChecks (at 0) (at 1) (at 2) (at 3))) 0 (timeOf (at 0) (at 1) (at 2) (at 3)) noTime (ap (λ (r : TimeCodeRead). eqb (r .answer .number) 0) (time-back t (in-range t right))))
+      ∙ ap (λ (r : TimeCodeRead). r .«time_code») (time-back t (in-range t right))
+
+  abbrev bytes : List ℕ
+  bytes = timeCodeId ∷ timeBytes t ++ rest
+
+  id : byte p i ≡ timeCodeId
+  id = rw add-zero at (byte-on p i bytes h 0)
+
+  pub time-clear : i + 5 ≤ length p → verdict (timeCodeChecks p i) ≡ clear
+  time-clear fits =
+      simp (le-leb _ _ fits, eq-eqb _ _ id, byte-on p i bytes h 1, byte-on p i bytes h 2, byte-on p i bytes h 3, byte-on p i bytes h 4) four
+
+  pub time-value : timeCodeIn p i ≡ t
+  time-value = simp (byte-on p i bytes h 1, byte-on p i bytes h 2, byte-on p i bytes h 3, byte-on p i bytes h 4) value
+
+-- captions: as many triplets as three go into the run, and the run as it is
+fixed-bits : (k : ℕ) → k ≤ 31 → (0xE0 + k) / 32 % 8 ≡ 7
+fixed-bits k h = omega arith
+
+module _ (p : List ℕ) (i : ℕ) (captions : List ℕ) (rest : List ℕ) (h : drop i p ≡ ccDataBytes captions ++ rest)
+    (short : length captions ≤ 93) (whole : length captions % 3 ≡ 0) where
+  abbrev run : ℕ
+  run = length captions
+
+  header : byte p (i + 1) ≡ 0xE0 + run / 3
+  header = byte-on p i (ccDataBytes captions ++ rest) h 1
+
+  pub count-is : ccCount p i ≡ run / 3
+  count-is = omega (arith, header)
+
+  pub size-is : ccDataSize p i ≡ 2 + run
+  size-is = omega (arith, header)
+
+  first : byte p i ≡ captionsId
+  first = rw add-zero at (byte-on p i (ccDataBytes captions ++ rest) h 0)
+
+  pub captions-clear : i + (2 + run) ≤ length p → verdict (ccDataChecks p i) ≡ clear
+  captions-clear fits =
+      let fixed : byte p (i + 1) / 32 % 8 ≡ 7 = rw header (fixed-bits (run / 3) (omega arith)) in
+      simp (le-leb (i + 2) (length p) (omega arith), eq-eqb _ _ first, eq-eqb _ _ fixed, le-leb (i + ccDataSize p i) (length p) (omega (arith, size-is)))
+
+  behind : drop (i + 2) p ≡ captions ++ rest
+  behind = further-on p i (captionsId ∷ (0xE0 + run / 3) ∷ []) (captions ++ rest) h 2 refl
+
+  pub captions-value : handedOut p i ≡ captionsBack captions
+  captions-value =
+      let long : 3 * ccCount p i ≡ run = omega (arith, header) in
+      ap₂ (λ (n : ℕ) (xs : List ℕ). (0xC0 + n) ∷ 0xFF ∷ xs) count-is (part-on p (i + 2) captions rest behind (3 * ccCount p i) long)
+
+-- services: the section that was written, its list, and flags that agree with the header's
+beq-same : (b : Bool) → Bool·beq b b ≡ true
+beq-same true = refl
+beq-same false = refl
+
+module _ (p : List ℕ) (i : ℕ) (l : ServiceInfo) (rest : List ℕ) (h : drop i p ≡ sectionBytes l ++ rest) (r : Ready l) where
+  second : byte p (i + 1) ≡ sectionByte l
+  unfolding sectionBytes
+  second = byte-on p i (sectionBytes l ++ rest) h 1
+
+  third : byte p i ≡ servicesId
+  unfolding sectionBytes
+  third = rw add-zero at (byte-on p i (sectionBytes l ++ rest) h 0)
+
+  pub section-size : svcInfoSize p i ≡ sectionLength (l .count)
+  section-size = ap sectionLength (rw second (count-back l r))
+
+  section-bytes : svcInfoBytes p i ≡ sectionBytes l
+  section-bytes = part-on p i (sectionBytes l) rest h (svcInfoSize p i) (section-size ∙ sym (section-length l))
+
+  pub list-value : listOf (svcInfoBytes p i) ≡ listBack l
+  list-value = ap listOf section-bytes ∙ list-back l r
+
+  module _ (f : Flags) (start : f .«svc_info_start» ≡ l .start) (change : f .«svc_info_change» ≡ l .change)
+      (complete : f .«svc_info_complete» ≡ l .complete) where
+    flags-agree : sameFlags (listOf (svcInfoBytes p i)) f ≡ true
+    unfolding sameFlags
+    flags-agree = rw (list-value, start, change, complete, beq-same (l .start), beq-same (l .change), beq-same (l .complete))
+
+    abbrev flagsCheck : Check
+    flagsCheck = check (sameFlags (listOf (svcInfoBytes p i)) f) ServiceFlagsMismatched
+
+    ends : (two : Bool) → andThen (named two) clear ≡ named two
+    ends true = refl
+    ends false = refl
+
+    own : verdict (sectionChecks (svcInfoBytes p i) ++ flagsCheck ∷ []) ≡ named (namesFieldTwo (counted l))
+    own =
+        verdict-append (sectionChecks (svcInfoBytes p i)) (flagsCheck ∷ [])
+        ∙ ap₂ andThen (ap (λ (d : List ℕ). verdict (sectionChecks d)) section-bytes ∙ section-verdict l r) (rw flags-agree)
+        ∙ ends (namesFieldTwo (counted l))
+
+    pub services-verdict : i + sectionLength (l .count) ≤ length p → verdict (svcInfoChecks p f i) ≡ named (namesFieldTwo (counted l))
+    services-verdict fits =
+        simp (le-leb (i + 2) (length p) (omega arith), eq-eqb _ _ third, le-leb (i + svcInfoSize p i) (length p) (omega (arith, section-size))) own
