@@ -8,14 +8,14 @@ use borrow.Author.Tests.{le-leb, lt-leb}
 use lib.Dec.{eqb}
 use lib.ListN.{length, take}
 use lib.Seq.{take-append-seam}
-use Rattle.values.proofs.Puts.{put-fits}
-use Rattle.values.proofs.Verdicts.{andThen, refused-not-done}
-use Rattle.values.specs.Answer.{BufferTooShort, NotWritable, done, refused}
-use Rattle.values.specs.Bytes.{over, put}
-use Rattle.values.specs.Check.{Verdict, clear, broken}
+use Rattle.basis.proofs.Puts.{put-fits}
+use Rattle.basis.proofs.Verdicts.{andThen, refused-not-done}
+use Rattle.basis.specs.Answer.{BufferTooShort, NotWritable, done, refused}
+use Rattle.basis.specs.Bytes.{over, put}
+use Rattle.basis.specs.Check.{Verdict, clear, broken}
 use Rattle.entries.specs.Writing.{Written, writable, entryBytes, entryWritten, written}
 use Rattle.entries.specs.declared.entry.ServiceEntry.{ServiceEntry}
-use Rattle.values.specs.declared.answer.Answer.{Answer}
+use Rattle.basis.specs.declared.answer.Answer.{Answer}
 
 -- what a writer leaves: this answer, and this buffer
 abbrev pub Leaves : Written → Answer → List ℕ → Type 0

@@ -11,10 +11,10 @@ use borrow.Author.Tests.{eq-eqb, ne-eqb, eqb-true, le-leb, lt-leb}
 use lib.Dec.{eqb}
 use lib.ListN.{length, set, replicate, length-append}
 use lib.Seq.{append-snoc, set-append-seam}
-use Rattle.values.proofs.Verdicts.{andThen, verdict-append, done-clear, refused-stays}
-use Rattle.values.specs.Answer.{LengthMismatch, WrongMagic, InvalidFixedBits, ServiceNumberMismatch, done, refused}
-use Rattle.values.specs.Bytes.{byte}
-use Rattle.values.specs.Check.{Check, Verdict, check, clear, broken, verdict, answer, ifClear}
+use Rattle.basis.proofs.Verdicts.{andThen, verdict-append, done-clear, refused-stays}
+use Rattle.basis.specs.Answer.{LengthMismatch, WrongMagic, InvalidFixedBits, ServiceNumberMismatch, done, refused}
+use Rattle.basis.specs.Bytes.{byte}
+use Rattle.basis.specs.Check.{Check, Verdict, check, clear, broken, verdict, answer, ifClear}
 use Rattle.values.specs.Packet.{servicesId}
 use Rattle.entries.specs.Entry.{entryChecks, entryOf, entryRead, refusedEntry}
 use Rattle.services.specs.Section.{Framed, checksAt, countOf, entriesOf, entryListChecks, namedBy, readAt, sectionChecks, sectionRead, listOf, refusedList, sixBehind}

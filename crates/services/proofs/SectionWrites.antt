@@ -10,11 +10,11 @@ use native.Mathlib.Omega.{arith}
 use borrow.Author.Tests.{le-leb, lt-leb, leb-true}
 use lib.Dec.{eqb, leb}
 use lib.ListN.{length, getD, take, take-append-drop}
-use Rattle.values.proofs.Puts.{length-over, over-over, put-fits}
-use Rattle.values.proofs.Verdicts.{andThen, verdict-append}
-use Rattle.values.specs.Answer.{WouldOverflow, BufferTooShort, NotWritable, done, refused}
-use Rattle.values.specs.Bytes.{over, put}
-use Rattle.values.specs.Check.{Verdict, clear, broken, verdict, answer}
+use Rattle.basis.proofs.Puts.{length-over, over-over, put-fits}
+use Rattle.basis.proofs.Verdicts.{andThen, verdict-append}
+use Rattle.basis.specs.Answer.{WouldOverflow, BufferTooShort, NotWritable, done, refused}
+use Rattle.basis.specs.Bytes.{over, put}
+use Rattle.basis.specs.Check.{Verdict, clear, broken, verdict, answer}
 use Rattle.values.specs.Packet.{servicesId}
 use Rattle.entries.specs.Service.{filler}
 use Rattle.services.specs.ServiceList.{byteLen, sectionLength}

@@ -4,14 +4,14 @@ use mathlib.Core.List.{List, [], _∷_, _++_}
 use Prim.Native.Nat.{ℕ, _+_, _-_, _*_}
 use lib.Dec.{leb, ltb}
 use lib.ListN.{length, set, replicate}
-use Rattle.values.specs.Answer.{WouldOverflow}
-use Rattle.values.specs.Check.{Check, check, verdict, answer, ifClear}
+use Rattle.basis.specs.Answer.{WouldOverflow}
+use Rattle.basis.specs.Check.{Check, check, verdict, answer, ifClear}
 use Rattle.entries.specs.Service.{filler}
 use Rattle.entries.specs.declared.entry.ServiceEntry.{ServiceEntry}
 use Rattle.services.specs.declared.list.MaybeServiceInfo.{MaybeServiceInfo}
 use Rattle.services.specs.declared.list.ServiceInfo.{ServiceInfo}
 use Rattle.services.specs.declared.list.ServiceInfoAdded.{ServiceInfoAdded}
-use Rattle.values.specs.declared.answer.Answer.{Answer}
+use Rattle.basis.specs.declared.answer.Answer.{Answer}
 
 -- how many entries a list has places for
 abbrev pub places : ℕ

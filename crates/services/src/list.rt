@@ -1,8 +1,8 @@
 // The list: three flags, fifteen places and a count.
 ghost use mathlib.Core.Path.{_≡_};
 ghost use Rattle.services.specs.ServiceList as List;
+use basis::Answer;
 use entries::ServiceEntry;
-use values::Answer;
 
 pub struct ServiceInfo {
     pub start: bool,

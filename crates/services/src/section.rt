@@ -5,10 +5,10 @@ ghost use lib.ListN.{length};
 ghost use Rattle.services.specs.Section as Section;
 ghost use Rattle.entries.specs.Service as Service;
 use crate::list::ServiceInfo;
+use basis::Answer;
 use entries::FieldOrService;
 use entries::ServiceEntry;
 use entries::ServiceEntryRead;
-use values::Answer;
 use values::Packet;
 
 // What reading gives: beside a refusal, the empty list.
