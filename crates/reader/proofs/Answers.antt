@@ -13,7 +13,8 @@ use Rattle.basis.specs.Bytes.{byte}
 use Rattle.basis.specs.Check.{Check, Verdict, broken, check, clear, verdict, when}
 use Rattle.basis.specs.Mask.{allClear, allSet, x3E, x3F, x80}
 use Rattle.values.specs.Packet.{footerId}
-use Rattle.services.specs.Section.{checksAt, countOf, entryListChecks, listOf, sectionChecks}
+use Rattle.svc_entries.specs.Entries.{checksAt, countOf, entryListChecks, sectionChecks}
+use Rattle.services.specs.Section.{listOf}
 use Rattle.sections.specs.CcData.{ccDataChecks}
 use Rattle.footer.specs.Footer.{closingChecks, footerChecks, footerFrom, futureChecks, futureChecksAt, futureLength}
 use Rattle.sections.specs.Header.{flagsIn, sequenceIn}

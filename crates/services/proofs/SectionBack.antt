@@ -19,9 +19,10 @@ use Rattle.basis.specs.Mask.{flag, under, allSet, x80, x40, x20, x10, x3F, x0F}
 use Rattle.values.specs.Packet.{servicesId}
 use Rattle.entries.specs.Entry.{entryChecks, entryOf}
 use Rattle.services.specs.RoundTrip.{isFieldTwo, namesFieldTwo, allOfThree, Ready}
-use Rattle.services.specs.Section.{sixBehind, checksAt, entryListChecks, entriesOf, frameChecks, sectionChecks, sectionRead, listOf, countOf}
+use Rattle.svc_entries.specs.Entries.{sixBehind, checksAt, entryListChecks, entriesOf, filled, frameChecks, sectionChecks, countOf}
+use Rattle.services.specs.Section.{sectionRead, listOf}
 use Rattle.entries.specs.Service.{numberOf}
-use Rattle.services.specs.ServiceList.{list, filled, empty}
+use Rattle.services.specs.ServiceList.{list, empty}
 use Rattle.entries.specs.Writing.{Written, writable, headerByte, entryBytes, sevenBytes}
 use Rattle.services.specs.Writing.{allWritable, entryListBytes, counted, sectionByte, sectionBytes, sectionWritten}
 use Rattle.entries.specs.declared.entry.ServiceEntry.{ServiceEntry}

@@ -17,7 +17,8 @@ use Rattle.basis.specs.Bytes.{over, put}
 use Rattle.basis.specs.Check.{Verdict, clear, broken, verdict, answer}
 use Rattle.values.specs.Packet.{servicesId}
 use Rattle.entries.specs.Service.{filler}
-use Rattle.services.specs.ServiceList.{byteLen, sectionLength}
+use Rattle.svc_entries.specs.Entries.{sectionLength}
+use Rattle.services.specs.ServiceList.{byteLen}
 use Rattle.entries.specs.Writing.{roomCheck, sevenBytes, written}
 use Rattle.services.specs.Writing.{allWritable, counted, entryListBytes, placesFrom, sectionByte, sectionBytes, sectionWritten, valueAnswer, valueChecks}
 use Rattle.entries.proofs.EntryWrites.{Leaves, done-means}

@@ -8,7 +8,8 @@ use Rattle.basis.specs.Mask.{flag}
 use Rattle.values.specs.Packet.{servicesId}
 use Rattle.entries.specs.Service.{filler}
 use Rattle.entries.specs.Writing.{Written, written, writable, entryCheck, roomCheck, sevenBytes}
-use Rattle.services.specs.ServiceList.{countCheck, sectionLength}
+use Rattle.svc_entries.specs.Entries.{sectionLength}
+use Rattle.services.specs.ServiceList.{countCheck}
 use Rattle.services.specs.declared.list.ServiceInfo.{ServiceInfo}
 use Rattle.entries.specs.declared.entry.ServiceEntry.{ServiceEntry}
 use Rattle.basis.specs.declared.answer.Answer.{Answer}

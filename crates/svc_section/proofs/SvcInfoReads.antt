@@ -12,7 +12,8 @@ use Rattle.basis.proofs.Verdicts.{andThen, done-clear, done-value, refused-show
 use Rattle.basis.specs.Answer.{LengthMismatch, ServiceFlagsMismatched, WrongMagic, done, refused}
 use Rattle.basis.specs.Bytes.{byte, part}
 use Rattle.basis.specs.Check.{Check, Verdict, answer, check, clear, ifClear, verdict}
-use Rattle.services.specs.Section.{listOf, sectionChecks, sectionRead}
+use Rattle.svc_entries.specs.Entries.{sectionChecks}
+use Rattle.services.specs.Section.{listOf, sectionRead}
 use Rattle.services.specs.ServiceList.{empty, listAbsent, listPresent}
 use Rattle.svc_section.specs.SvcInfo.{noSvcInfo, sameFlags, svcInfoRead}
 use Rattle.svc_section.specs.declared.svc_info.SvcInfoSection.{SvcInfoSection}

@@ -8,8 +8,9 @@ use Rattle.basis.specs.Bytes.{byte, part}
 use Rattle.basis.specs.Check.{Check, check, when, sizeWhen, verdict, answer, ifClear}
 use Rattle.basis.specs.Mask.{under, x0F}
 use Rattle.values.specs.Packet.{servicesId}
-use Rattle.services.specs.Section.{sectionChecks, listOf}
-use Rattle.services.specs.ServiceList.{sectionLength, listPresent, listAbsent}
+use Rattle.svc_entries.specs.Entries.{sectionChecks, sectionLength}
+use Rattle.services.specs.Section.{listOf}
+use Rattle.services.specs.ServiceList.{listPresent, listAbsent}
 use Rattle.sections.specs.Section.{sizeCheck}
 use Rattle.svc_section.specs.declared.svc_info.SvcInfoSection.{SvcInfoSection}
 use Rattle.services.specs.declared.list.MaybeServiceInfo.{MaybeServiceInfo}

@@ -1,12 +1,12 @@
--- `services::section::entry_at` is rules S5 to S8: each return is where a test is the first that fails, or where none does.
+-- `svc_entries::section::entry_at` is rules S5 to S8: each return is where a test is the first that fails, or where none does.
 -- Assumes nothing.
 use mathlib.Core.Path.{_∙_, sym}
 use native.Mathlib.Omega.{arith}
 use borrow.Author.Tests.{not-true, not-false}
-use Rattle.services.proofs.SectionReads.{header-no-80, header-no-20, entry-refused, other-number, same-number}
+use Rattle.svc_entries.proofs.SectionReads.{header-no-80, header-no-20, entry-refused, other-number, same-number}
 use borrow.Author.Needs.{needs}
-use Rattle.services.proofs.section.entry_at.Statement.{statement}
-use Rattle.services.proofs.section.entry_at.Tie as tie
+use Rattle.svc_entries.proofs.section.entry_at.Statement.{statement}
+use Rattle.svc_entries.proofs.section.entry_at.Tie as tie
 
 shared-slice-read-header : tie.Need-shared-slice-read-header
 shared-slice-read-header c = search needs

@@ -1,9 +1,9 @@
--- `services::section::named_by`: the low five bits with bit 40, the low six without.
+-- `svc_entries::section::named_by`: the low five bits with bit 40, the low six without.
 -- Assumes nothing.
 use native.Mathlib.Omega.{arith}
 use borrow.Author.Tests.{eq-eqb, ne-eqb}
-use Rattle.services.proofs.section.named_by.Statement.{statement}
-use Rattle.services.proofs.section.named_by.Tie as tie
+use Rattle.svc_entries.proofs.section.named_by.Statement.{statement}
+use Rattle.svc_entries.proofs.section.named_by.Tie as tie
 
 returns : tie.Need-returns
 returns c = simp (eq-eqb _ _ (c .if1 .taken)) (omega arith)

@@ -1,4 +1,4 @@
--- `services::section::entries`: after k turns the first k entries are read, and what is left to test is the rest.
+-- `svc_entries::section::entries`: after k turns the first k entries are read, and what is left to test is the rest.
 -- Assumes nothing.
 use mathlib.Core.Path.{_≡_, _∙_, sym, refl}
 use Prim.Native.Nat.{_≤_, _-_}
@@ -6,9 +6,9 @@ use lib.ListN.{length, length-set}
 use native.Mathlib.Omega.{arith}
 use borrow.Author.Needs.{needs}
 use borrow.Author.Tests.{not-true, not-false}
-use Rattle.services.proofs.SectionReads.{firstRead, left, first-none, first-more, left-goes-on, section-refused, section-whole}
-use Rattle.services.proofs.section.entries.Statement.{statement}
-use Rattle.services.proofs.section.entries.Tie as tie
+use Rattle.svc_entries.proofs.SectionReads.{firstRead, left, first-none, first-more, left-goes-on, section-refused, section-whole}
+use Rattle.svc_entries.proofs.section.entries.Statement.{statement}
+use Rattle.svc_entries.proofs.section.entries.Tie as tie
 
 abbrev Inv-loop : tie.InvT-loop
 Inv-loop «data» header count services₀ k₀ services k = (k ≤ count) × (length services ≡ 15) × (services ≡ firstRead «data» k) × (left «data» 0 count ≡ left «data» k count)
