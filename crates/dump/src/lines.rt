@@ -4,10 +4,10 @@ use crate::list;
 use crate::print::flag;
 use crate::print::number;
 use crate::print::word;
+use basis::Answer;
 use reader::CDPParser;
-use values::Answer;
+use times::MaybeTimeCode;
 use values::MaybeFramerate;
-use values::MaybeTimeCode;
 
 // Of the answers that a packet can get, 1 alone has two numbers to show; the length beside 0 shows in the captions.
 pub fn answer(shown: Answer) {

@@ -8,12 +8,12 @@ use native.Mathlib.Omega.{arith}
 use lib.Dec.{eqb, leb}
 use lib.ListN.{length, take}
 use borrow.Author.Tests.{eq-eqb, ne-eqb, leb-true}
-use Rattle.values.proofs.Bools.{and-left, and-right}
-use Rattle.values.proofs.Verdicts.{kept-first}
-use Rattle.values.specs.Answer.{done}
-use Rattle.values.specs.Bytes.{byte}
-use Rattle.values.specs.Check.{verdict, clear}
-use Rattle.values.specs.Mask.{Mask, flag, under, allSet, x80, x40, x3F}
+use Rattle.basis.proofs.Bools.{and-left, and-right}
+use Rattle.basis.proofs.Verdicts.{kept-first}
+use Rattle.basis.specs.Answer.{done}
+use Rattle.basis.specs.Bytes.{byte}
+use Rattle.basis.specs.Check.{verdict, clear}
+use Rattle.basis.specs.Mask.{Mask, flag, under, allSet, x80, x40, x3F}
 use Rattle.entries.specs.Entry.{entryChecks, entryOf, entryRead, serviceOf}
 use Rattle.entries.specs.Service.{entry}
 use Rattle.entries.specs.Writing.{writable, kindByte, flagsByte, entryBytes, entryCheck, entryWritten, Written}

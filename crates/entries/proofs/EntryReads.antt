@@ -8,8 +8,8 @@ use Prim.Native.Nat.{ℕ, _/_, _%_}
 use native.Mathlib.Omega.{arith}
 use borrow.Author.Tests.{eq-eqb, ne-eqb}
 use lib.Dec.{eqb}
-use Rattle.values.specs.Answer.{InvalidFixedBits, InvalidServiceNumber, done, refused}
-use Rattle.values.specs.Bytes.{byte}
+use Rattle.basis.specs.Answer.{InvalidFixedBits, InvalidServiceNumber, done, refused}
+use Rattle.basis.specs.Bytes.{byte}
 use Rattle.entries.specs.Entry.{kindCheck, serviceOf, entryOf, entryRead, refusedEntry}
 use Rattle.entries.specs.declared.entry.ServiceEntryRead.{ServiceEntryRead}
 use Rattle.entries.specs.declared.service.FieldOrService.the-variants.{Field, Service}

@@ -7,14 +7,14 @@ use Prim.Native.Nat.{ℕ, _≤_, _<_}
 use borrow.Author.Tests.{le-leb, lt-leb}
 use lib.Dec.{eqb}
 use lib.ListN.{length, take}
-use Rattle.values.proofs.Puts.{put-fits, take-over}
-use Rattle.values.proofs.Verdicts.{andThen, refused-not-done, verdict-append}
-use Rattle.values.specs.Answer.{BufferTooShort, NotWritable, done, refused}
-use Rattle.values.specs.Bytes.{over, put}
-use Rattle.values.specs.Check.{Check, Verdict, answer, broken, clear, verdict}
+use Rattle.basis.proofs.Puts.{put-fits, take-over}
+use Rattle.basis.proofs.Verdicts.{andThen, refused-not-done, verdict-append}
+use Rattle.basis.specs.Answer.{BufferTooShort, NotWritable, done, refused}
+use Rattle.basis.specs.Bytes.{over, put}
+use Rattle.basis.specs.Check.{Check, Verdict, answer, broken, clear, verdict}
 use Rattle.entries.specs.Writing.{Written, writable, entryBytes, entryWritten, roomCheck, written}
 use Rattle.entries.specs.declared.entry.ServiceEntry.{ServiceEntry}
-use Rattle.values.specs.declared.answer.Answer.{Answer}
+use Rattle.basis.specs.declared.answer.Answer.{Answer}
 
 -- what a writer leaves: this answer, and this buffer
 abbrev pub Leaves : Written → Answer → List ℕ → Type 0

@@ -1,4 +1,3 @@
-pub mod Cases
 pub mod EntryBack
 pub mod EntryReads
 pub mod EntryWrites

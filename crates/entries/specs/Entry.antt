@@ -3,16 +3,16 @@ use mathlib.Core.Bool.{cond, not}
 use mathlib.Core.List.{List, [], _∷_}
 use Prim.Native.Nat.{ℕ}
 use lib.Dec.{eqb}
-use Rattle.values.specs.Answer.{InvalidFixedBits, InvalidServiceNumber}
-use Rattle.values.specs.Bytes.{byte}
-use Rattle.values.specs.Check.{Check, check, verdict, answer, ifClear}
-use Rattle.values.specs.Mask.{under, allSet, allClear, x80, x40, x3F, x3E, x01}
+use Rattle.basis.specs.Answer.{InvalidFixedBits, InvalidServiceNumber}
+use Rattle.basis.specs.Bytes.{byte}
+use Rattle.basis.specs.Check.{Check, check, verdict, answer, ifClear}
+use Rattle.basis.specs.Mask.{under, allSet, allClear, x80, x40, x3F, x3E, x01}
 use Rattle.entries.specs.Service.{digitalEntry, entry, filler}
 use Rattle.entries.specs.declared.entry.ServiceEntry.{ServiceEntry}
 use Rattle.entries.specs.declared.entry.ServiceEntryRead.{ServiceEntryRead}
 use Rattle.entries.specs.declared.service.FieldOrService.{FieldOrService}
 use Rattle.entries.specs.declared.service.FieldOrService.the-variants.{Field, Service}
-use Rattle.values.specs.declared.answer.Answer.{Answer}
+use Rattle.basis.specs.declared.answer.Answer.{Answer}
 
 -- E2: with 80, byte 3 is digital and its low six bits are a number other than 0; without, it is a field and has 3E
 abbrev pub kindCheck : ℕ → Check

@@ -1,4 +1,3 @@
 pub mod Service
 pub mod Entry
 pub mod Writing
-pub mod Cases

@@ -4,14 +4,14 @@ use mathlib.Core.List.{List, [], _∷_}
 use Prim.Native.Nat.{ℕ, _+_, _%_}
 use lib.Dec.{leb}
 use lib.ListN.{length}
-use Rattle.values.specs.Answer.{BufferTooShort, NotWritable}
-use Rattle.values.specs.Bytes.{byte, over}
-use Rattle.values.specs.Check.{Check, Verdict, check, verdict, answer, ifClear}
-use Rattle.values.specs.Mask.{flag}
+use Rattle.basis.specs.Answer.{BufferTooShort, NotWritable}
+use Rattle.basis.specs.Bytes.{byte, over}
+use Rattle.basis.specs.Check.{Check, Verdict, check, verdict, answer, ifClear}
+use Rattle.basis.specs.Mask.{flag}
 use Rattle.entries.specs.declared.entry.ServiceEntry.{ServiceEntry}
 use Rattle.entries.specs.declared.service.FieldOrService.{FieldOrService}
 use Rattle.entries.specs.declared.service.FieldOrService.the-variants.{Field, Service}
-use Rattle.values.specs.declared.answer.Answer.{Answer}
+use Rattle.basis.specs.declared.answer.Answer.{Answer}
 
 -- what a writer leaves: its answer, and the lent buffer whole
 pub record Written : Type 0 where

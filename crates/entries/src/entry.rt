@@ -4,7 +4,7 @@ ghost use Rattle.entries.specs.Entry as Entry;
 ghost use Rattle.entries.specs.Service as Service;
 use crate::service::DigitalServiceEntry;
 use crate::service::FieldOrService;
-use values::Answer;
+use basis::Answer;
 
 pub struct ServiceEntry {
     pub language: [u8; 3],

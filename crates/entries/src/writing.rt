@@ -3,9 +3,9 @@ ghost use mathlib.Core.Path.{_≡_};
 ghost use Rattle.entries.specs.Writing as Writing;
 use crate::entry::ServiceEntry;
 use crate::service::FieldOrService;
-use values::Answer;
-use values::flag;
-use values::put;
+use basis::Answer;
+use basis::flag;
+use basis::put;
 
 impl ServiceEntry {
     // How many bytes an entry is.

@@ -6,10 +6,10 @@ use Prim.Native.Nat.{ℕ, zero, suc, _+_, _-_, _≤_, _<_}
 use native.Mathlib.Omega.{arith}
 use borrow.Author.Tests.{eq-eqb, ne-eqb, le-leb, lt-leb}
 use lib.ListN.{length}
-use Rattle.values.proofs.Verdicts.{andThen, verdict-append}
-use Rattle.values.specs.Answer.{ChecksumFailed, LengthMismatch, SequenceCountMismatch, WrongMagic, done, refused}
-use Rattle.values.specs.Bytes.{byte}
-use Rattle.values.specs.Check.{Verdict, answer, verdict}
+use Rattle.basis.proofs.Verdicts.{andThen, verdict-append}
+use Rattle.basis.specs.Answer.{ChecksumFailed, LengthMismatch, SequenceCountMismatch, WrongMagic, done, refused}
+use Rattle.basis.specs.Bytes.{byte}
+use Rattle.basis.specs.Check.{Verdict, answer, verdict}
 use Rattle.values.specs.Sequence.{sequenceOf}
 use Rattle.footer.specs.Footer.{checksumOf, closingChecks, closingRead, footerChecks, footerFrom, footerRead, futureChecks, futureChecksAt, futureLength}
 

@@ -9,10 +9,10 @@ use native.Mathlib.Omega.{arith}
 use borrow.Author.Tests.{eqb-true, leb-true}
 use lib.Dec.{eqb, leb}
 use lib.ListN.{length}
-use Rattle.values.proofs.Verdicts.{and-second, kept-first, kept-rest, verdict-append}
-use Rattle.values.specs.Answer.{ChecksumFailed, SequenceCountMismatch, WrongMagic}
-use Rattle.values.specs.Bytes.{byte}
-use Rattle.values.specs.Check.{Check, check, clear, verdict}
+use Rattle.basis.proofs.Verdicts.{and-second, kept-first, kept-rest, verdict-append}
+use Rattle.basis.specs.Answer.{ChecksumFailed, SequenceCountMismatch, WrongMagic}
+use Rattle.basis.specs.Bytes.{byte}
+use Rattle.basis.specs.Check.{Check, check, clear, verdict}
 use Rattle.values.specs.Sequence.{sequenceOf}
 use Rattle.sections.specs.Section.{sizeCheck}
 use Rattle.footer.specs.Footer.{checksumOf, closingChecks, footerFrom, futureChecks, futureChecksAt, futureLength}

@@ -4,14 +4,14 @@ use mathlib.Core.List.{List, [], _∷_, _++_}
 use Prim.Native.Nat.{ℕ, zero, suc, _+_, _-_}
 use lib.Dec.{eqb, leb}
 use lib.ListN.{length, take}
-use Rattle.values.specs.Answer.{WrongMagic, SequenceCountMismatch, ChecksumFailed}
-use Rattle.values.specs.Bytes.{byte}
-use Rattle.values.specs.Check.{Check, check, verdict, answer}
+use Rattle.basis.specs.Answer.{WrongMagic, SequenceCountMismatch, ChecksumFailed}
+use Rattle.basis.specs.Bytes.{byte}
+use Rattle.basis.specs.Check.{Check, check, verdict, answer}
 use Rattle.values.specs.Checksum.{total, negative}
 use Rattle.values.specs.Packet.{footerId}
 use Rattle.values.specs.Sequence.{sequenceOf}
 use Rattle.sections.specs.Section.{sizeCheck}
-use Rattle.values.specs.declared.answer.Answer.{Answer}
+use Rattle.basis.specs.declared.answer.Answer.{Answer}
 
 -- L, the byte behind a future section's id
 abbrev pub futureLength : List ℕ → ℕ → ℕ

@@ -3,7 +3,7 @@ ghost use mathlib.Core.Path.{_≡_};
 ghost use Prim.Native.Nat.{_+_, _≤_};
 ghost use lib.ListN.{length};
 ghost use Rattle.footer.specs.Footer.{closingRead, footerRead};
-use values::Answer;
+use basis::Answer;
 use values::Packet;
 use values::checksum_byte;
 use values::sequence_count;

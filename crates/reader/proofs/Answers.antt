@@ -6,14 +6,15 @@ use mathlib.Core.Path.{_≡_, refl}
 use Prim.Native.Nat.{ℕ, zero, suc, _+_}
 use lib.Dec.{eqb}
 use lib.ListN.{length}
-use Rattle.values.proofs.Bools.{and-left, and-right}
-use Rattle.values.specs.Answer as Table
-use Rattle.values.specs.Answer.{Refusal, refused}
-use Rattle.values.specs.Bytes.{byte}
-use Rattle.values.specs.Check.{Check, Verdict, broken, check, clear, verdict, when}
-use Rattle.values.specs.Mask.{allClear, allSet, x3E, x3F, x80}
+use Rattle.basis.proofs.Bools.{and-left, and-right}
+use Rattle.basis.specs.Answer as Table
+use Rattle.basis.specs.Answer.{Refusal, refused}
+use Rattle.basis.specs.Bytes.{byte}
+use Rattle.basis.specs.Check.{Check, Verdict, broken, check, clear, verdict, when}
+use Rattle.basis.specs.Mask.{allClear, allSet, x3E, x3F, x80}
 use Rattle.values.specs.Packet.{footerId}
-use Rattle.services.specs.Section.{checksAt, countOf, entryListChecks, listOf, sectionChecks}
+use Rattle.svc_entries.specs.Entries.{checksAt, countOf, entryListChecks, sectionChecks}
+use Rattle.services.specs.Section.{listOf}
 use Rattle.sections.specs.CcData.{ccDataChecks}
 use Rattle.footer.specs.Footer.{closingChecks, footerChecks, footerFrom, futureChecks, futureChecksAt, futureLength}
 use Rattle.sections.specs.Header.{flagsIn, sequenceIn}

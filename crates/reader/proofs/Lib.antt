@@ -1,5 +1,4 @@
 pub mod Answers
-pub mod Cases
 pub mod PacketReads
 pub mod ReaderReads
 pub mod Refusals

@@ -8,15 +8,15 @@ use native.Mathlib.Omega.{arith}
 use borrow.Author.Tests.{eqb-true}
 use lib.Dec.{eqb}
 use lib.ListN.{length}
-use Rattle.values.proofs.Verdicts.{and-first, and-second, andThen, done-clear, kept-first, kept-rest, refused-stays, verdict-append}
-use Rattle.values.specs.Answer.{LengthMismatch, UnknownFramerate, WrongMagic, done}
-use Rattle.values.specs.Bytes.{byte}
+use Rattle.basis.proofs.Verdicts.{and-first, and-second, andThen, done-clear, kept-first, kept-rest, refused-stays, verdict-append}
+use Rattle.basis.specs.Answer.{LengthMismatch, UnknownFramerate, WrongMagic, done}
+use Rattle.basis.specs.Bytes.{byte}
 use Rattle.values.specs.Packet.{leastSize}
 use Rattle.values.specs.Rate.{noRate}
 use Rattle.values.specs.Flags.{noFlags}
-use Rattle.values.specs.Time.{timeAbsent}
+use Rattle.times.specs.Time.{timeAbsent}
 use Rattle.services.specs.ServiceList.{listAbsent}
-use Rattle.values.specs.Check.{Check, Verdict, answer, broken, check, clear, ifClear, sizeWhen, verdict, when}
+use Rattle.basis.specs.Check.{Check, Verdict, answer, broken, check, clear, ifClear, sizeWhen, verdict, when}
 use Rattle.sections.specs.CcData.{ccDataChecks, ccDataRead, ccDataSize}
 use Rattle.footer.specs.Footer.{closingChecks, closingRead}
 use Rattle.sections.specs.Header.{flagsIn, headerChecks, headerRead, rateOf, sequenceIn}
@@ -29,7 +29,7 @@ use Rattle.reader.specs.declared.parser.CDPParser.{CDPParser}
 use Rattle.sections.specs.declared.header.Header.{Header}
 use Rattle.svc_section.specs.declared.svc_info.SvcInfoSection.{SvcInfoSection}
 use Rattle.sections.specs.declared.time_code.TimeCodeSection.{TimeCodeSection}
-use Rattle.values.specs.declared.answer.Answer.{Answer}
+use Rattle.basis.specs.declared.answer.Answer.{Answer}
 
 -- what a verdict on a packet gives
 abbrev given : Verdict → ℕ → CDPParser → ℕ → PacketRead

@@ -8,10 +8,10 @@ use native.Mathlib.Omega.{arith}
 use borrow.Author.Tests.{le-leb, lt-leb, lt-ltb}
 use lib.Dec.{eqb, ltb}
 use lib.ListN.{length}
-use Rattle.values.proofs.Verdicts.{done-clear, refused-shows, when-there}
-use Rattle.values.specs.Answer.{BufferTooShort, refused}
-use Rattle.values.specs.Bytes.{over}
-use Rattle.values.specs.Check.{Verdict, answer, clear, ifClear, sizeWhen, verdict}
+use Rattle.basis.proofs.Verdicts.{done-clear, refused-shows, when-there}
+use Rattle.basis.specs.Answer.{BufferTooShort, refused}
+use Rattle.basis.specs.Bytes.{over}
+use Rattle.basis.specs.Check.{Verdict, answer, clear, ifClear, sizeWhen, verdict}
 use Rattle.sections.proofs.CcDataReads.{captions-there, handed-long, handed-over, nothing-out}
 use Rattle.sections.specs.CcData.{ccDataChecks, ccDataSize, handOut, handedOut}
 use Rattle.sections.specs.Header.{flagsIn}
@@ -20,7 +20,7 @@ use Rattle.reader.specs.Packet.{captionLength, ccDataAt, fresh, packetCh
 use Rattle.reader.specs.Reader.{bufferAfter, captionsOf, cleared, read}
 use Rattle.reader.specs.declared.parser.CDPParser.{CDPParser}
 use Rattle.reader.specs.declared.parser.CDPParserRead.{CDPParserRead}
-use Rattle.values.specs.declared.answer.Answer.{Answer}
+use Rattle.basis.specs.declared.answer.Answer.{Answer}
 
 abbrev result : Answer → CDPParser → CDPParserRead
 result a s = record { answer = a; parser = s }

@@ -10,12 +10,12 @@ use borrow.Author.Tests.{eq-eqb, le-leb}
 use lib.Dec.{eqb, leb}
 use lib.ListN.{drop, length, take}
 use lib.Seq.{take-at}
-use Rattle.values.proofs.Verdicts.{done-clear, kept-rest, refused-not-done, refused-shows}
-use Rattle.values.specs.Answer.{BufferTooShort}
-use Rattle.values.specs.Bytes.{byte, over}
-use Rattle.values.specs.Check.{Check, Verdict, answer, broken, check, clear, ifClear, verdict}
+use Rattle.basis.proofs.Verdicts.{done-clear, kept-rest, refused-not-done, refused-shows}
+use Rattle.basis.specs.Answer.{BufferTooShort}
+use Rattle.basis.specs.Bytes.{byte, over}
+use Rattle.basis.specs.Check.{Check, Verdict, answer, broken, check, clear, ifClear, verdict}
 use Rattle.values.specs.Rate.{noRate}
-use Rattle.values.specs.Time.{timeAbsent}
+use Rattle.times.specs.Time.{timeAbsent}
 use Rattle.footer.proofs.FooterFound.{checksum-kept}
 use Rattle.footer.specs.Footer.{checksumOf}
 use Rattle.sections.specs.Header.{sequenceIn}

@@ -2,9 +2,9 @@
 use mathlib.Core.List.{List, _++_}
 use Prim.Native.Nat.{ℕ, _+_}
 use lib.ListN.{length}
-use Rattle.values.specs.Check.{Check, when, sizeWhen, verdict, answer, ifClear}
+use Rattle.basis.specs.Check.{Check, when, sizeWhen, verdict, answer, ifClear}
 use Rattle.values.specs.Rate.{noRate}
-use Rattle.values.specs.Time.{timeAbsent}
+use Rattle.times.specs.Time.{timeAbsent}
 use Rattle.services.specs.ServiceList.{listAbsent}
 use Rattle.sections.specs.CcData.{ccDataChecks, ccDataSize}
 use Rattle.footer.specs.Footer.{closingChecks, footerFrom}
@@ -14,9 +14,9 @@ use Rattle.sections.specs.TimeCode.{timeCodeChecks, timeCodeSize, timeCodeOf}
 use Rattle.reader.specs.declared.packet.PacketRead.{PacketRead}
 use Rattle.reader.specs.declared.parser.CDPParser.{CDPParser}
 use Rattle.services.specs.declared.list.MaybeServiceInfo.{MaybeServiceInfo}
-use Rattle.values.specs.declared.answer.Answer.{Answer}
+use Rattle.basis.specs.declared.answer.Answer.{Answer}
 use Rattle.values.specs.declared.framerate.MaybeFramerate.{MaybeFramerate}
-use Rattle.values.specs.declared.time_code.MaybeTimeCode.{MaybeTimeCode}
+use Rattle.times.specs.declared.time_code.MaybeTimeCode.{MaybeTimeCode}
 
 -- i, as it moves on: behind the header, the time code, the captions, the services
 abbrev pub timeCodeAt : ℕ

@@ -4,11 +4,11 @@ use mathlib.Core.List.{List, [], _∷_}
 use Prim.Native.Nat.{ℕ}
 use lib.Dec.{leb}
 use lib.ListN.{length}
-use Rattle.values.specs.Answer.{BufferTooShort}
-use Rattle.values.specs.Bytes.{over}
-use Rattle.values.specs.Check.{Check, check, verdict, answer, ifClear}
+use Rattle.basis.specs.Answer.{BufferTooShort}
+use Rattle.basis.specs.Bytes.{over}
+use Rattle.basis.specs.Check.{Check, check, verdict, answer, ifClear}
 use Rattle.values.specs.Rate.{noRate}
-use Rattle.values.specs.Time.{timeAbsent}
+use Rattle.times.specs.Time.{timeAbsent}
 use Rattle.sections.specs.CcData.{handedOut}
 use Rattle.sections.specs.Header.{flagsIn}
 use Rattle.reader.specs.Packet.{ccDataAt, captionLength, fresh, packetChecks, shownBy, state}

@@ -2,12 +2,12 @@
 ghost use mathlib.Core.Path.{_≡_};
 ghost use Rattle.reader.specs.Packet.{packetRead, refusedPacket};
 use crate::parser::CDPParser;
+use basis::Answer;
 use footer::closing;
 use sections::Header;
 use sections::TimeCodeSection;
 use sections::cc_data;
 use svc_section::SvcInfoSection;
-use values::Answer;
 
 // What reading gives: the answer, what an accepted packet makes the reader show, and where its captions stand. Beside a
 // refusal, what a new reader shows.

@@ -4,11 +4,11 @@ ghost use lib.ListN.{length};
 ghost use Rattle.reader.specs.Packet.{fresh};
 ghost use Rattle.reader.specs.Reader as Reader;
 use crate::packet::PacketRead;
+use basis::Answer;
 use sections::hand_out;
 use services::MaybeServiceInfo;
-use values::Answer;
+use times::MaybeTimeCode;
 use values::MaybeFramerate;
-use values::MaybeTimeCode;
 use values::Packet;
 
 // What the last accepted packet had. After a refusal only its service list is left.

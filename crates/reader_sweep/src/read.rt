@@ -2,10 +2,10 @@
 use crate::digest::all;
 use crate::digest::two;
 use crate::shown;
+use basis::Answer;
 use reader::CDPParser;
 use report::feed;
 use std::num::wrapping_add_u64;
-use values::Answer;
 
 // What the caption buffer holds before each packet, so that it shows what was written.
 const UNTOUCHED: u8 = 0xA5;

@@ -5,8 +5,8 @@ use crate::digest::two;
 use crate::list;
 use reader::CDPParser;
 use report::feed;
+use times::MaybeTimeCode;
 use values::MaybeFramerate;
-use values::MaybeTimeCode;
 
 pub fn reader(digest: u64, shown: CDPParser) -> u64 {
     let framerate = shown.framerate;

@@ -10,12 +10,12 @@ use borrow.Author.Tests.{eq-eqb, ne-eqb, le-leb, leb-true, lt-leb}
 use lib.Dec.{eqb}
 use lib.ListN.{length, drop, length-drop}
 use lib.Seq.{length-take-le}
-use Rattle.values.proofs.Verdicts.{kept-first, kept-rest}
-use Rattle.values.proofs.Puts.{put-fits, put-put, put-short}
-use Rattle.values.specs.Answer.{LengthMismatch, WrongMagic, InvalidFixedBits, done, refused}
-use Rattle.values.specs.Bytes.{byte, over, part, put}
-use Rattle.values.specs.Check.{Check, check, clear, verdict}
-use Rattle.values.specs.Mask.{allSet, xE0}
+use Rattle.basis.proofs.Verdicts.{kept-first, kept-rest}
+use Rattle.basis.proofs.Puts.{put-fits, put-put, put-short}
+use Rattle.basis.specs.Answer.{LengthMismatch, WrongMagic, InvalidFixedBits, done, refused}
+use Rattle.basis.specs.Bytes.{byte, over, part, put}
+use Rattle.basis.specs.Check.{Check, check, clear, verdict}
+use Rattle.basis.specs.Mask.{allSet, xE0}
 use Rattle.values.specs.Packet.{captionsId}
 use Rattle.sections.specs.Section.{sizeCheck}
 use Rattle.sections.specs.CcData.{ccCount, ccDataChecks, ccDataRead, ccDataSize, handOut, handedOut}

@@ -6,8 +6,8 @@ use mathlib.Core.Path.{_≡_}
 use Prim.Native.Nat.{ℕ, _≤_, _<_}
 use borrow.Author.Tests.{eq-eqb, ne-eqb, le-leb, lt-leb}
 use lib.ListN.{length}
-use Rattle.values.specs.Answer.{LengthMismatch, WrongMagic, UnknownFramerate, done, refused}
-use Rattle.values.specs.Bytes.{byte}
+use Rattle.basis.specs.Answer.{LengthMismatch, WrongMagic, UnknownFramerate, done, refused}
+use Rattle.basis.specs.Bytes.{byte}
 use Rattle.sections.specs.Header.{flagsIn, headerRead, rateOf, refusedHeader, sequenceIn}
 use Rattle.sections.specs.declared.header.Header.{Header}
 

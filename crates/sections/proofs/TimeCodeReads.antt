@@ -7,16 +7,16 @@ use Prim.Native.Nat.{ℕ, _+_, _≤_, _<_}
 use borrow.Author.Tests.{eq-eqb, ne-eqb, le-leb, lt-leb}
 use lib.Dec.{eqb}
 use lib.ListN.{length}
-use Rattle.values.proofs.Verdicts.{done-shows, done-value, refused-shows}
-use Rattle.values.specs.Answer.{LengthMismatch, WrongMagic, done, refused}
-use Rattle.values.specs.Bytes.{byte}
-use Rattle.values.specs.Check.{Verdict, answer, ifClear, verdict}
-use Rattle.values.specs.Time.{noTime, timeAbsent, timeChecks, timePresent, timeRead}
+use Rattle.basis.proofs.Verdicts.{done-shows, done-value, refused-shows}
+use Rattle.basis.specs.Answer.{LengthMismatch, WrongMagic, done, refused}
+use Rattle.basis.specs.Bytes.{byte}
+use Rattle.basis.specs.Check.{Verdict, answer, ifClear, verdict}
+use Rattle.times.specs.Time.{noTime, timeAbsent, timeChecks, timePresent, timeRead}
 use Rattle.sections.specs.TimeCode.{noTimeCode, timeCodeIn, timeCodeRead}
 use Rattle.sections.specs.declared.time_code.TimeCodeSection.{TimeCodeSection}
-use Rattle.values.specs.declared.answer.Answer.{Answer}
-use Rattle.values.specs.declared.time_code.MaybeTimeCode.{MaybeTimeCode}
-use Rattle.values.specs.declared.time_code.TimeCodeRead.{TimeCodeRead}
+use Rattle.basis.specs.declared.answer.Answer.{Answer}
+use Rattle.times.specs.declared.time_code.MaybeTimeCode.{MaybeTimeCode}
+use Rattle.times.specs.declared.time_code.TimeCodeRead.{TimeCodeRead}
 
 abbrev section : Answer → MaybeTimeCode → TimeCodeSection
 section a t = record { answer = a; «time_code» = t }

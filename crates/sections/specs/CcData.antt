@@ -4,13 +4,13 @@ use mathlib.Core.List.{List, [], _∷_}
 use Prim.Native.Nat.{ℕ, _+_, _*_}
 use lib.Dec.{eqb, leb}
 use lib.ListN.{length}
-use Rattle.values.specs.Answer.{WrongMagic, InvalidFixedBits}
-use Rattle.values.specs.Bytes.{byte, part, put}
-use Rattle.values.specs.Check.{Check, check, when, sizeWhen, verdict, answer}
-use Rattle.values.specs.Mask.{under, allSet, xE0, x1F}
+use Rattle.basis.specs.Answer.{WrongMagic, InvalidFixedBits}
+use Rattle.basis.specs.Bytes.{byte, part, put}
+use Rattle.basis.specs.Check.{Check, check, when, sizeWhen, verdict, answer}
+use Rattle.basis.specs.Mask.{under, allSet, xE0, x1F}
 use Rattle.values.specs.Packet.{captionsId}
 use Rattle.sections.specs.Section.{sizeCheck}
-use Rattle.values.specs.declared.answer.Answer.{Answer}
+use Rattle.basis.specs.declared.answer.Answer.{Answer}
 
 -- the count c is the low five bits of byte i+1
 abbrev pub ccCount : List ℕ → ℕ → ℕ

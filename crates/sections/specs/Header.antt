@@ -4,17 +4,17 @@ use mathlib.Core.List.{List, [], _∷_}
 use Prim.Native.Nat.{ℕ}
 use lib.Dec.{eqb}
 use lib.ListN.{length}
-use Rattle.values.specs.Answer.{LengthMismatch, WrongMagic, UnknownFramerate}
-use Rattle.values.specs.Bytes.{byte}
-use Rattle.values.specs.Check.{Check, check, verdict, answer, ifClear}
+use Rattle.basis.specs.Answer.{LengthMismatch, WrongMagic, UnknownFramerate}
+use Rattle.basis.specs.Bytes.{byte}
+use Rattle.basis.specs.Check.{Check, check, verdict, answer, ifClear}
 use Rattle.values.specs.Flags.{flagsOf, noFlags}
-use Rattle.values.specs.Mask.{under, xF0}
+use Rattle.basis.specs.Mask.{under, xF0}
 use Rattle.values.specs.Packet.{leastSize}
 use Rattle.values.specs.Rate.{fromId, noRate}
 use Rattle.values.specs.Sequence.{sequenceOf}
 use Rattle.sections.specs.Section.{sizeCheck}
 use Rattle.sections.specs.declared.header.Header.{Header}
-use Rattle.values.specs.declared.answer.Answer.{Answer}
+use Rattle.basis.specs.declared.answer.Answer.{Answer}
 use Rattle.values.specs.declared.flags.Flags.{Flags}
 use Rattle.values.specs.declared.framerate.MaybeFramerate.{MaybeFramerate}
 

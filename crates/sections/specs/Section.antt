@@ -3,8 +3,8 @@ use mathlib.Core.List.{List}
 use Prim.Native.Nat.{ℕ}
 use lib.Dec.{leb}
 use lib.ListN.{length}
-use Rattle.values.specs.Answer.{LengthMismatch}
-use Rattle.values.specs.Check.{Check, check}
+use Rattle.basis.specs.Answer.{LengthMismatch}
+use Rattle.basis.specs.Check.{Check, check}
 
 -- n is at least so much, or 1 with that and n
 abbrev pub sizeCheck : List ℕ → ℕ → Check

@@ -3,16 +3,16 @@ use mathlib.Core.Bool.{Bool, cond}
 use mathlib.Core.List.{List, [], _∷_}
 use Prim.Native.Nat.{ℕ, _+_}
 use lib.Dec.{eqb}
-use Rattle.values.specs.Answer.{WrongMagic}
-use Rattle.values.specs.Bytes.{byte}
-use Rattle.values.specs.Check.{Check, check, when, sizeWhen, verdict, answer, ifClear}
+use Rattle.basis.specs.Answer.{WrongMagic}
+use Rattle.basis.specs.Bytes.{byte}
+use Rattle.basis.specs.Check.{Check, check, when, sizeWhen, verdict, answer, ifClear}
 use Rattle.values.specs.Packet.{timeCodeId}
-use Rattle.values.specs.Time.{timeChecks, timeOf, timePresent, timeAbsent}
+use Rattle.times.specs.Time.{timeChecks, timeOf, timePresent, timeAbsent}
 use Rattle.sections.specs.Section.{sizeCheck}
 use Rattle.sections.specs.declared.time_code.TimeCodeSection.{TimeCodeSection}
-use Rattle.values.specs.declared.answer.Answer.{Answer}
-use Rattle.values.specs.declared.time_code.MaybeTimeCode.{MaybeTimeCode}
-use Rattle.values.specs.declared.time_code.TimeCode.{TimeCode}
+use Rattle.basis.specs.declared.answer.Answer.{Answer}
+use Rattle.times.specs.declared.time_code.MaybeTimeCode.{MaybeTimeCode}
+use Rattle.times.specs.declared.time_code.TimeCode.{TimeCode}
 
 abbrev pub timeCodeSize : ℕ
 timeCodeSize = 5

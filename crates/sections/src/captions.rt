@@ -1,9 +1,9 @@
 // Rule 6: the captions, tested and handed out.
 ghost use mathlib.Core.Path.{_≡_};
 ghost use Rattle.sections.specs.CcData.{ccDataRead, handOut};
-use values::Answer;
+use basis::Answer;
+use basis::put;
 use values::Packet;
-use values::put;
 
 // Tests the section at a place, where the header says that it is there; the length with 0 is the section's.
 pub fn cc_data(packet: &[u8], present: bool, at: u8) -> Answer

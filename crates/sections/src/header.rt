@@ -1,7 +1,7 @@
 // Rules 2 to 4: the first seven bytes.
 ghost use mathlib.Core.Path.{_≡_};
 ghost use Rattle.sections.specs.Header.{headerRead, refusedHeader};
-use values::Answer;
+use basis::Answer;
 use values::Flags;
 use values::Framerate;
 use values::MaybeFramerate;

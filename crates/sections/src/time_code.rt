@@ -3,10 +3,10 @@ ghost use mathlib.Core.Path.{_≡_};
 ghost use Prim.Native.Nat.{_+_, _≤_};
 ghost use lib.ListN.{length};
 ghost use Rattle.sections.specs.TimeCode.{fourBehind, noTimeCode, timeCodeRead};
-use values::Answer;
-use values::MaybeTimeCode;
+use basis::Answer;
+use times::MaybeTimeCode;
+use times::TimeCode;
 use values::Packet;
-use values::TimeCode;
 
 // What reading gives: beside a refusal, no time code.
 pub struct TimeCodeSection {

@@ -1,4 +1,3 @@
-pub mod Cases
 pub mod SectionBack
 pub mod SectionReads
 pub mod SectionWrites

@@ -10,18 +10,19 @@ use lib.Dec.{eqb}
 use lib.ListN.{length, take, drop}
 use lib.Seq.{getD-drop, drop-drop}
 use borrow.Author.Tests.{eq-eqb, ne-eqb, le-leb, eqb-true}
-use Rattle.values.proofs.Bools.{and-left, and-right}
-use Rattle.values.proofs.Verdicts.{andThen, verdict-append}
-use Rattle.values.specs.Answer.{ServiceNumberMismatch, done, refused}
-use Rattle.values.specs.Bytes.{byte}
-use Rattle.values.specs.Check.{Check, Verdict, check, verdict, clear, broken}
-use Rattle.values.specs.Mask.{flag, under, allSet, x80, x40, x20, x10, x3F, x0F}
+use Rattle.basis.proofs.Bools.{and-left, and-right}
+use Rattle.basis.proofs.Verdicts.{andThen, verdict-append}
+use Rattle.basis.specs.Answer.{ServiceNumberMismatch, done, refused}
+use Rattle.basis.specs.Bytes.{byte}
+use Rattle.basis.specs.Check.{Check, Verdict, check, verdict, clear, broken}
+use Rattle.basis.specs.Mask.{flag, under, allSet, x80, x40, x20, x10, x3F, x0F}
 use Rattle.values.specs.Packet.{servicesId}
 use Rattle.entries.specs.Entry.{entryChecks, entryOf}
 use Rattle.services.specs.RoundTrip.{isFieldTwo, namesFieldTwo, allOfThree, Ready}
-use Rattle.services.specs.Section.{sixBehind, checksAt, entryListChecks, entriesOf, frameChecks, sectionChecks, sectionRead, listOf, countOf}
+use Rattle.svc_entries.specs.Entries.{sixBehind, checksAt, entryListChecks, entriesOf, filled, frameChecks, sectionChecks, countOf}
+use Rattle.services.specs.Section.{sectionRead, listOf}
 use Rattle.entries.specs.Service.{numberOf}
-use Rattle.services.specs.ServiceList.{list, filled, empty}
+use Rattle.services.specs.ServiceList.{list, empty}
 use Rattle.entries.specs.Writing.{Written, writable, headerByte, entryBytes, sevenBytes}
 use Rattle.services.specs.Writing.{allWritable, entryListBytes, counted, sectionByte, sectionBytes, sectionWritten}
 use Rattle.entries.specs.declared.entry.ServiceEntry.{ServiceEntry}

@@ -10,14 +10,15 @@ use native.Mathlib.Omega.{arith}
 use borrow.Author.Tests.{le-leb, leb-true}
 use lib.Dec.{eqb, leb}
 use lib.ListN.{length, getD}
-use Rattle.values.proofs.Puts.{length-over, over-nil, over-over, put-fits}
-use Rattle.values.proofs.Verdicts.{done-clear}
-use Rattle.values.specs.Answer.{WouldOverflow, BufferTooShort, NotWritable, done, refused}
-use Rattle.values.specs.Bytes.{over, put}
-use Rattle.values.specs.Check.{Verdict, clear, broken, verdict, answer}
+use Rattle.basis.proofs.Puts.{length-over, over-nil, over-over, put-fits}
+use Rattle.basis.proofs.Verdicts.{done-clear}
+use Rattle.basis.specs.Answer.{WouldOverflow, BufferTooShort, NotWritable, done, refused}
+use Rattle.basis.specs.Bytes.{over, put}
+use Rattle.basis.specs.Check.{Verdict, clear, broken, verdict, answer}
 use Rattle.values.specs.Packet.{servicesId}
 use Rattle.entries.specs.Service.{filler}
-use Rattle.services.specs.ServiceList.{byteLen, sectionLength}
+use Rattle.svc_entries.specs.Entries.{sectionLength}
+use Rattle.services.specs.ServiceList.{byteLen}
 use Rattle.entries.specs.Writing.{sevenBytes, written}
 use Rattle.services.specs.Writing.{allWritable, counted, entryListBytes, placesFrom, sectionByte, sectionBytes, sectionWritten, valueAnswer, valueChecks}
 use Rattle.entries.proofs.EntryWrites.{Leaves, all-fits, no-room, room-done, values-refused}

@@ -8,8 +8,8 @@ use native.Mathlib.Nat.{sub-zero, not-suc-le-zero, le-of-suc-le-suc}
 use native.Mathlib.Omega.{arith}
 use borrow.Author.Tests.{le-leb, lt-leb}
 use lib.ListN.{length, getD}
-use Rattle.values.specs.Answer.{WouldOverflow, NotWritable, done, refused}
-use Rattle.values.specs.Check.{Verdict, clear, broken, verdict}
+use Rattle.basis.specs.Answer.{WouldOverflow, NotWritable, done, refused}
+use Rattle.basis.specs.Check.{Verdict, clear, broken, verdict}
 use Rattle.entries.specs.Service.{filler}
 use Rattle.entries.specs.Writing.{writable}
 use Rattle.services.specs.Writing.{allWritable, entryWriteChecks, placesFrom, counted, valueAnswer}

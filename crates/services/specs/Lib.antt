@@ -2,4 +2,3 @@ pub mod ServiceList
 pub mod Section
 pub mod Writing
 pub mod RoundTrip
-pub mod Cases

@@ -5,7 +5,7 @@ use mathlib.Core.Path.{_≡_}
 use Prim.Native.Nat.{_≤_}
 use lib.Dec.{eqb}
 use lib.ListN.{length}
-use Rattle.services.specs.ServiceList.{places}
+use Rattle.svc_entries.specs.Entries.{places}
 use Rattle.services.specs.Writing.{counted, allWritable}
 use Rattle.entries.specs.declared.entry.ServiceEntry.{ServiceEntry}
 use Rattle.services.specs.declared.list.ServiceInfo.{ServiceInfo}

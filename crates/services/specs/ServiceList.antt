@@ -1,32 +1,21 @@
 -- The list: three flags, fifteen places, a count; and the calls on it.
 use mathlib.Core.Bool.{Bool, true, false, cond}
-use mathlib.Core.List.{List, [], _∷_, _++_}
-use Prim.Native.Nat.{ℕ, _+_, _-_, _*_}
+use mathlib.Core.List.{List, [], _∷_}
+use Prim.Native.Nat.{ℕ, _+_}
 use lib.Dec.{leb, ltb}
-use lib.ListN.{length, set, replicate}
-use Rattle.values.specs.Answer.{WouldOverflow}
-use Rattle.values.specs.Check.{Check, check, verdict, answer, ifClear}
-use Rattle.entries.specs.Service.{filler}
+use lib.ListN.{set}
+use Rattle.basis.specs.Answer.{WouldOverflow}
+use Rattle.basis.specs.Check.{Check, check, verdict, answer, ifClear}
+use Rattle.svc_entries.specs.Entries.{places, fillers, sectionLength}
 use Rattle.entries.specs.declared.entry.ServiceEntry.{ServiceEntry}
 use Rattle.services.specs.declared.list.MaybeServiceInfo.{MaybeServiceInfo}
 use Rattle.services.specs.declared.list.ServiceInfo.{ServiceInfo}
 use Rattle.services.specs.declared.list.ServiceInfoAdded.{ServiceInfoAdded}
-use Rattle.values.specs.declared.answer.Answer.{Answer}
-
--- how many entries a list has places for
-abbrev pub places : ℕ
-places = 15
+use Rattle.basis.specs.declared.answer.Answer.{Answer}
 
 abbrev pub list : Bool → Bool → Bool → List ServiceEntry → ℕ → ServiceInfo
 list start change complete services count =
     record { start = start; change = change; complete = complete; services = services; count = count }
-
--- the entries in the first places, the filler in the others
-unfoldable pub filled : List ServiceEntry → List ServiceEntry
-filled entries = entries ++ replicate (places - length entries) filler
-
-abbrev pub fillers : List ServiceEntry
-fillers = replicate places filler
 
 abbrev pub empty : ServiceInfo
 empty = list false false false fillers 0
@@ -60,10 +49,6 @@ added l e =
       answer = answer v 0;
       list = ifClear v (list (l .start) (l .change) (l .complete) (set (l .services) (l .count) e) (l .count + 1)) l;
     }
-
--- the length of a section with so many entries
-abbrev pub sectionLength : ℕ → ℕ
-sectionLength count = 2 + 7 * count
 
 -- a count over 15 is no list's
 abbrev pub countCheck : ServiceInfo → Check

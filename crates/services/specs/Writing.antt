@@ -3,15 +3,16 @@ use mathlib.Core.Bool.{Bool, true, _&&_}
 use mathlib.Core.List.{List, [], _∷_, _++_}
 use Prim.Native.Nat.{ℕ, zero, suc, _+_}
 use lib.ListN.{getD}
-use Rattle.values.specs.Check.{Check, verdict, answer}
-use Rattle.values.specs.Mask.{flag}
+use Rattle.basis.specs.Check.{Check, verdict, answer}
+use Rattle.basis.specs.Mask.{flag}
 use Rattle.values.specs.Packet.{servicesId}
 use Rattle.entries.specs.Service.{filler}
 use Rattle.entries.specs.Writing.{Written, written, writable, entryCheck, roomCheck, sevenBytes}
-use Rattle.services.specs.ServiceList.{countCheck, sectionLength}
+use Rattle.svc_entries.specs.Entries.{sectionLength}
+use Rattle.services.specs.ServiceList.{countCheck}
 use Rattle.services.specs.declared.list.ServiceInfo.{ServiceInfo}
 use Rattle.entries.specs.declared.entry.ServiceEntry.{ServiceEntry}
-use Rattle.values.specs.declared.answer.Answer.{Answer}
+use Rattle.basis.specs.declared.answer.Answer.{Answer}
 
 -- the checks, and the bytes, of entries one after the other
 abbrev pub entryWriteChecks : List ServiceEntry → List Check

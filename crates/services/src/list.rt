@@ -1,8 +1,9 @@
 // The list: three flags, fifteen places and a count.
 ghost use mathlib.Core.Path.{_≡_};
+ghost use Rattle.svc_entries.specs.Entries as Entries;
 ghost use Rattle.services.specs.ServiceList as List;
+use basis::Answer;
 use entries::ServiceEntry;
-use values::Answer;
 
 pub struct ServiceInfo {
     pub start: bool,
@@ -56,10 +57,9 @@ impl ServiceInfo {
 
     // The filler in all places.
     pub fn fillers() -> [ServiceEntry; 15]
-        ensures { λ r. ⌜ r ≡ List.fillers ⌝ }
+        ensures { λ r. ⌜ r ≡ Entries.fillers ⌝ }
     {
-        let filler = ServiceEntry::FILLER;
-        [filler; 15]
+        svc_entries::fillers()
     }
 
     pub fn set_start(mut self, start: bool) -> Self

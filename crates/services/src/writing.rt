@@ -2,14 +2,14 @@
 ghost use mathlib.Core.Path.{_≡_};
 ghost use Prim.Native.Nat.{_+_, _*_, _≤_};
 ghost use lib.ListN.{length};
-ghost use Rattle.values.specs.Bytes as Bytes;
+ghost use Rattle.basis.specs.Bytes as Bytes;
 ghost use Rattle.services.specs.Writing as Writing;
 use crate::list::ServiceInfo;
+use basis::Answer;
+use basis::flag;
+use basis::put;
 use entries::ServiceEntry;
-use values::Answer;
 use values::Packet;
-use values::flag;
-use values::put;
 
 impl ServiceInfo {
     // Whether the list can be written: its count, then its entries.

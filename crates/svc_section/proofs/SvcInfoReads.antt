@@ -8,17 +8,18 @@ use native.Mathlib.Omega.{arith}
 use borrow.Author.Tests.{eq-eqb, ne-eqb, le-leb, lt-leb, not-true, not-false}
 use lib.Dec.{eqb}
 use lib.ListN.{length}
-use Rattle.values.proofs.Verdicts.{andThen, done-clear, done-value, refused-shows, refused-stays, verdict-append}
-use Rattle.values.specs.Answer.{LengthMismatch, ServiceFlagsMismatched, WrongMagic, done, refused}
-use Rattle.values.specs.Bytes.{byte, part}
-use Rattle.values.specs.Check.{Check, Verdict, answer, check, clear, ifClear, verdict}
-use Rattle.services.specs.Section.{listOf, sectionChecks, sectionRead}
+use Rattle.basis.proofs.Verdicts.{andThen, done-clear, done-value, refused-shows, refused-stays, verdict-append}
+use Rattle.basis.specs.Answer.{LengthMismatch, ServiceFlagsMismatched, WrongMagic, done, refused}
+use Rattle.basis.specs.Bytes.{byte, part}
+use Rattle.basis.specs.Check.{Check, Verdict, answer, check, clear, ifClear, verdict}
+use Rattle.svc_entries.specs.Entries.{sectionChecks}
+use Rattle.services.specs.Section.{listOf, sectionRead}
 use Rattle.services.specs.ServiceList.{empty, listAbsent, listPresent}
 use Rattle.svc_section.specs.SvcInfo.{noSvcInfo, sameFlags, svcInfoRead}
 use Rattle.svc_section.specs.declared.svc_info.SvcInfoSection.{SvcInfoSection}
 use Rattle.services.specs.declared.list.MaybeServiceInfo.{MaybeServiceInfo}
 use Rattle.services.specs.declared.list.ServiceInfo.{ServiceInfo}
-use Rattle.values.specs.declared.answer.Answer.{Answer}
+use Rattle.basis.specs.declared.answer.Answer.{Answer}
 use Rattle.values.specs.declared.flags.Flags.{Flags}
 
 abbrev section : Answer → MaybeServiceInfo → SvcInfoSection

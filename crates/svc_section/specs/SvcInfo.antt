@@ -3,18 +3,19 @@ use mathlib.Core.Bool.{Bool, Bool·beq, cond, _&&_}
 use mathlib.Core.List.{List, [], _∷_, _++_}
 use Prim.Native.Nat.{ℕ, _+_}
 use lib.Dec.{eqb}
-use Rattle.values.specs.Answer.{WrongMagic, ServiceFlagsMismatched}
-use Rattle.values.specs.Bytes.{byte, part}
-use Rattle.values.specs.Check.{Check, check, when, sizeWhen, verdict, answer, ifClear}
-use Rattle.values.specs.Mask.{under, x0F}
+use Rattle.basis.specs.Answer.{WrongMagic, ServiceFlagsMismatched}
+use Rattle.basis.specs.Bytes.{byte, part}
+use Rattle.basis.specs.Check.{Check, check, when, sizeWhen, verdict, answer, ifClear}
+use Rattle.basis.specs.Mask.{under, x0F}
 use Rattle.values.specs.Packet.{servicesId}
-use Rattle.services.specs.Section.{sectionChecks, listOf}
-use Rattle.services.specs.ServiceList.{sectionLength, listPresent, listAbsent}
+use Rattle.svc_entries.specs.Entries.{sectionChecks, sectionLength}
+use Rattle.services.specs.Section.{listOf}
+use Rattle.services.specs.ServiceList.{listPresent, listAbsent}
 use Rattle.sections.specs.Section.{sizeCheck}
 use Rattle.svc_section.specs.declared.svc_info.SvcInfoSection.{SvcInfoSection}
 use Rattle.services.specs.declared.list.MaybeServiceInfo.{MaybeServiceInfo}
 use Rattle.services.specs.declared.list.ServiceInfo.{ServiceInfo}
-use Rattle.values.specs.declared.answer.Answer.{Answer}
+use Rattle.basis.specs.declared.answer.Answer.{Answer}
 use Rattle.values.specs.declared.flags.Flags.{Flags}
 
 -- s is the low four bits of byte i+1

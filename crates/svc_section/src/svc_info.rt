@@ -1,9 +1,9 @@
 // Rule 7: the service section.
 ghost use mathlib.Core.Path.{_≡_};
 ghost use Rattle.svc_section.specs.SvcInfo.{noSvcInfo, sameFlags, svcInfoRead};
+use basis::Answer;
 use services::MaybeServiceInfo;
 use services::ServiceInfo;
-use values::Answer;
 use values::Flags;
 use values::Packet;
 

@@ -5,10 +5,10 @@ use crate::print::word;
 use crate::show;
 use crate::words;
 use crate::words::NOWHERE;
+use basis::Answer;
 use services::ServiceEntry;
 use services::ServiceInfo;
 use services::ServiceInfoAdded;
-use values::Answer;
 
 // A call as the tape spells it: its first letter, with a flag or an entry where it has one.
 struct CallWord {

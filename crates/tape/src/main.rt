@@ -113,7 +113,7 @@ fn kept(line: &mut [u8], length: usize, piece: &[u8]) -> usize {
     if room - length < piece.len() {
         return room + 1;
     }
-    values::put(line, length, piece);
+    basis::put(line, length, piece);
     length + piece.len()
 }
 

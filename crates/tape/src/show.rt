@@ -4,17 +4,17 @@ use crate::print::byte;
 use crate::print::decimal;
 use crate::print::hex;
 use crate::print::word;
+use basis::Answer;
 use reader::CDPParser;
 use services::DigitalServiceEntry;
 use services::FieldOrService;
 use services::MaybeServiceInfo;
 use services::ServiceEntry;
 use services::ServiceInfo;
-use values::Answer;
+use times::MaybeTimeCode;
+use times::TimeCode;
 use values::Framerate;
 use values::MaybeFramerate;
-use values::MaybeTimeCode;
-use values::TimeCode;
 
 pub fn answer(out: &mut [u8], at: usize, shown: Answer) -> usize {
     let number = decimal(out, at, shown.number as u64);

@@ -5,9 +5,9 @@ use crate::operation::malformed;
 use crate::print::word;
 use crate::show;
 use crate::words;
+use basis::Answer;
 use services::ServiceEntry;
 use services::ServiceInfo;
-use values::Answer;
 
 pub fn section(line: &[u8], lent: &mut [u8], out: &mut [u8], at: usize) -> usize {
     let lends = lent::room(line);

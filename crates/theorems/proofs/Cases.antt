@@ -3,10 +3,10 @@
 use mathlib.Core.Path.{refl}
 use borrow.Author.Tests.{le-leb}
 use Rattle.values.specs.Rate.{fromId}
-use Rattle.values.specs.Time.{digits, timeRead}
+use Rattle.times.specs.Time.{digits, timeRead}
 use Rattle.entries.specs.Entry.{entryRead}
-use Rattle.services.specs.Section.{listOf, sectionChecks, sectionRead}
-use Rattle.services.specs.ServiceList.{filled}
+use Rattle.svc_entries.specs.Entries.{sectionChecks, filled}
+use Rattle.services.specs.Section.{listOf, sectionRead}
 use Rattle.footer.specs.Footer.{closingChecks}
 use Rattle.reader.specs.Packet.{packetChecks, shownBy}
 use Rattle.reader.specs.Reader.{read}

@@ -8,16 +8,16 @@ use native.Mathlib.Omega.{arith}
 use lib.Dec.{eqb}
 use lib.ListN.{drop, length, length-append}
 use lib.Seq.{take-at}
-use Rattle.values.proofs.Verdicts.{done-clear}
-use Rattle.values.specs.Bytes.{byte}
-use Rattle.values.specs.Check.{clear, verdict}
+use Rattle.basis.proofs.Verdicts.{done-clear}
+use Rattle.basis.specs.Bytes.{byte}
+use Rattle.basis.specs.Check.{clear, verdict}
 use Rattle.values.specs.Checksum.{negative, total}
 use Rattle.values.specs.Packet.{footerId}
 use Rattle.footer.proofs.ClosingReads.{begins, footer-reached, footer-whole}
 use Rattle.footer.specs.Footer.{checksumOf, closingChecks, closingRead}
 use Rattle.writer.specs.Writing.{footerBytes}
 use Rattle.theorems.proofs.Places.{byte-on}
-use Rattle.values.specs.declared.answer.Answer.{Answer}
+use Rattle.basis.specs.declared.answer.Answer.{Answer}
 
 -- all bytes but the last are those that were summed up
 pub checksum-is : (bytes : List ℕ) (last : ℕ) → checksumOf (bytes ++ last ∷ []) ≡ negative (total bytes)

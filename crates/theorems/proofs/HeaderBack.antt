@@ -8,10 +8,10 @@ use native.Mathlib.Omega.{arith}
 use borrow.Author.Tests.{eq-eqb, eqb-true, le-leb}
 use lib.Dec.{eqb}
 use lib.ListN.{length}
-use Rattle.values.proofs.Bools.{and-left, and-right}
-use Rattle.values.specs.Check.{clear, verdict}
+use Rattle.basis.proofs.Bools.{and-left, and-right}
+use Rattle.basis.specs.Check.{clear, verdict}
 use Rattle.values.specs.Flags.{flagByte, flagsOf}
-use Rattle.values.specs.Mask.{flag, under, x80, x40, x20, x10, x08, x04}
+use Rattle.basis.specs.Mask.{flag, under, x80, x40, x20, x10, x08, x04}
 use Rattle.values.specs.Rate.{find, fromId, known, present, rates}
 use Rattle.services.proofs.SectionBack.{bit-back}
 use Rattle.sections.specs.Header.{headerChecks, rateOf, sequenceIn}

@@ -6,14 +6,15 @@ use mathlib.Core.Path.{_≡_, refl, ap}
 use Prim.Native.Nat.{ℕ, _+_, _≤_}
 use lib.Dec.{eqb}
 use lib.ListN.{drop, length}
-use Rattle.values.specs.Check.{Verdict, answer, clear, sizeWhen, verdict, when}
+use Rattle.basis.specs.Check.{Verdict, answer, clear, sizeWhen, verdict, when}
 use Rattle.values.specs.Packet.{timeCodeId}
-use Rattle.values.specs.Time.{timeBytes, timePresent, timeWriteChecks}
+use Rattle.times.specs.Time.{timeBytes, timePresent, timeWriteChecks}
 use Rattle.services.proofs.SectionBack.{named}
 use Rattle.services.proofs.SectionWrites.{value-done}
 use Rattle.services.specs.RoundTrip.{Ready, allOfThree, namesFieldTwo}
 use Rattle.services.specs.Section.{listOf}
-use Rattle.services.specs.ServiceList.{listAbsent, listPresent, sectionLength}
+use Rattle.svc_entries.specs.Entries.{sectionLength}
+use Rattle.services.specs.ServiceList.{listAbsent, listPresent}
 use Rattle.services.specs.Writing.{counted, sectionBytes, valueAnswer, valueChecks}
 use Rattle.sections.specs.TimeCode.{timeCodeChecks, timeCodeOf}
 use Rattle.svc_section.specs.SvcInfo.{svcInfoBytes, svcInfoChecks, svcInfoSize}
@@ -22,7 +23,7 @@ use Rattle.theorems.proofs.SectionsBack.{list-value, section-size, serv
 use Rattle.theorems.specs.RoundTrip.{listBack}
 use Rattle.services.specs.declared.list.ServiceInfo.{ServiceInfo}
 use Rattle.values.specs.declared.flags.Flags.{Flags}
-use Rattle.values.specs.declared.time_code.TimeCode.{TimeCode}
+use Rattle.times.specs.declared.time_code.TimeCode.{TimeCode}
 
 -- the time code
 pub record TimeHere (p : List ℕ) (i : ℕ) (present : Bool) (t : TimeCode) : Type 0 where

@@ -8,12 +8,12 @@ use native.Mathlib.Omega.{arith}
 use borrow.Author.Tests.{le-leb}
 use lib.Dec.{eqb}
 use lib.ListN.{drop, length, take}
-use Rattle.values.specs.Answer.{ServiceNumberMismatch, refused}
-use Rattle.values.specs.Bytes.{over}
-use Rattle.values.specs.Check.{answer, clear, ifClear, sizeWhen, verdict, when}
+use Rattle.basis.specs.Answer.{ServiceNumberMismatch, refused}
+use Rattle.basis.specs.Bytes.{over}
+use Rattle.basis.specs.Check.{answer, clear, ifClear, sizeWhen, verdict, when}
 use Rattle.values.specs.Checksum.{negative, total}
 use Rattle.values.specs.Rate.{present}
-use Rattle.values.proofs.Verdicts.{andThen}
+use Rattle.basis.proofs.Verdicts.{andThen}
 use Rattle.entries.proofs.EntryWrites.{first-bytes}
 use Rattle.entries.specs.Writing.{Written}
 use Rattle.services.proofs.SectionBack.{named}

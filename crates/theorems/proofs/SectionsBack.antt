@@ -9,18 +9,18 @@ use native.Mathlib.Omega.{arith}
 use borrow.Author.Tests.{eq-eqb, le-leb, leb-true}
 use lib.Dec.{eqb, leb}
 use lib.ListN.{drop, getD, length}
-use Rattle.values.proofs.TimeWrites.{time-back}
-use Rattle.values.proofs.Verdicts.{andThen, done-clear, done-value, kept-first, kept-rest, verdict-append}
-use Rattle.values.specs.Answer.{NotWritable, ServiceFlagsMismatched}
-use Rattle.values.specs.Bytes.{byte}
-use Rattle.values.specs.Check.{Check, check, clear, verdict}
+use Rattle.times.proofs.TimeWrites.{time-back}
+use Rattle.basis.proofs.Verdicts.{andThen, done-clear, done-value, kept-first, kept-rest, verdict-append}
+use Rattle.basis.specs.Answer.{NotWritable, ServiceFlagsMismatched}
+use Rattle.basis.specs.Bytes.{byte}
+use Rattle.basis.specs.Check.{Check, check, clear, verdict}
 use Rattle.values.specs.Packet.{captionsId, servicesId, timeCodeId}
-use Rattle.values.specs.Time.{InRange, noTime, timeBytes, timeChecks, timeOf, timeRead, timeWriteChecks}
+use Rattle.times.specs.Time.{InRange, noTime, timeBytes, timeChecks, timeOf, timeRead, timeWriteChecks}
 use Rattle.services.proofs.SectionBack.{count-back, list-back, named, section-verdict}
 use Rattle.services.proofs.SectionWrites.{section-length}
 use Rattle.services.specs.RoundTrip.{Ready, namesFieldTwo}
-use Rattle.services.specs.Section.{listOf, sectionChecks}
-use Rattle.services.specs.ServiceList.{sectionLength}
+use Rattle.svc_entries.specs.Entries.{sectionChecks, sectionLength}
+use Rattle.services.specs.Section.{listOf}
 use Rattle.services.specs.Writing.{counted, sectionByte, sectionBytes}
 use Rattle.sections.specs.CcData.{ccCount, ccDataChecks, ccDataSize, handedOut}
 use Rattle.sections.specs.TimeCode.{timeCodeChecks, timeCodeIn}
@@ -30,8 +30,8 @@ use Rattle.theorems.proofs.Places.{byte-on, further-on, part-on}
 use Rattle.theorems.specs.RoundTrip.{captionsBack, listBack}
 use Rattle.services.specs.declared.list.ServiceInfo.{ServiceInfo}
 use Rattle.values.specs.declared.flags.Flags.{Flags}
-use Rattle.values.specs.declared.time_code.TimeCode.{TimeCode}
-use Rattle.values.specs.declared.time_code.TimeCodeRead.{TimeCodeRead}
+use Rattle.times.specs.declared.time_code.TimeCode.{TimeCode}
+use Rattle.times.specs.declared.time_code.TimeCodeRead.{TimeCodeRead}
 
 -- a time code that can be written is in range
 in-range : (t : TimeCode) → verdict (timeWriteChecks t) ≡ clear → InRange t

@@ -4,13 +4,14 @@ use mathlib.Core.List.{List, [], _∷_}
 use mathlib.Core.Path.{_≡_}
 use Prim.Native.Nat.{ℕ, _≤_}
 use lib.ListN.{length}
-use Rattle.values.specs.Bytes.{over}
+use Rattle.basis.specs.Bytes.{over}
 use Rattle.values.specs.Rate.{present, row}
-use Rattle.values.specs.Time.{timeAbsent, timeCode, timeRead}
+use Rattle.times.specs.Time.{timeAbsent, timeCode, timeRead}
 use Rattle.entries.specs.Entry.{entryRead}
 use Rattle.entries.specs.Service.{entry, filler}
 use Rattle.services.specs.Section.{sectionRead}
-use Rattle.services.specs.ServiceList.{empty, filled, list, listAbsent}
+use Rattle.svc_entries.specs.Entries.{filled}
+use Rattle.services.specs.ServiceList.{empty, list, listAbsent}
 use Rattle.reader.specs.Packet.{fresh, state}
 use Rattle.reader.specs.Reader.{captionRoom, read}
 use Rattle.writer.specs.Writer as Writer
@@ -19,7 +20,7 @@ use Rattle.entries.specs.declared.service.FieldOrService.the-variants.{Field}
 use Rattle.reader.specs.declared.parser.CDPParser.{CDPParser}
 use Rattle.reader.specs.declared.parser.CDPParserRead.{CDPParserRead}
 use Rattle.services.specs.declared.section.ServiceInfoRead.{ServiceInfoRead}
-use Rattle.values.specs.declared.answer.Answer.{Answer}
+use Rattle.basis.specs.declared.answer.Answer.{Answer}
 
 -- an answer by its number and its two values
 abbrev pub numbers : ℕ → ℕ → ℕ → Answer

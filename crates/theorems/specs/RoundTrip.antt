@@ -4,11 +4,12 @@ use mathlib.Core.List.{List, _∷_}
 use mathlib.Core.Path.{_≡_}
 use Prim.Native.Nat.{ℕ, _+_, _/_}
 use lib.ListN.{length, take}
-use Rattle.values.specs.Answer.{done}
-use Rattle.values.specs.Bytes.{over}
+use Rattle.basis.specs.Answer.{done}
+use Rattle.basis.specs.Bytes.{over}
 use Rattle.values.specs.Rate.{present}
 use Rattle.services.specs.RoundTrip.{namesFieldTwo}
-use Rattle.services.specs.ServiceList.{filled, list, listAbsent, listPresent}
+use Rattle.svc_entries.specs.Entries.{filled}
+use Rattle.services.specs.ServiceList.{list, listAbsent, listPresent}
 use Rattle.services.specs.Writing.{counted}
 use Rattle.reader.specs.Packet.{state}
 use Rattle.writer.specs.Writer.{heldTime}

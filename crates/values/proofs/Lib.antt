@@ -1,10 +1,2 @@
-pub mod Bools
-pub mod Cases
-pub mod Digits
-pub mod Masks
-pub mod Puts
 pub mod Rates
 pub mod Sums
-pub mod TimeReads
-pub mod TimeWrites
-pub mod Verdicts

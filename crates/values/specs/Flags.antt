@@ -1,7 +1,7 @@
 -- Rule 4: the flag byte, read and made.
 use mathlib.Core.Bool.{false}
 use Prim.Native.Nat.{ℕ, _+_}
-use Rattle.values.specs.Mask.{allSet, flag, x80, x40, x20, x10, x08, x04}
+use Rattle.basis.specs.Mask.{allSet, flag, x80, x40, x20, x10, x08, x04}
 use Rattle.values.specs.declared.flags.Flags.{Flags}
 
 -- 80 time code, 40 captions, 20 services, 10 start, 08 change, 04 complete; 02 and 01 are unread

@@ -1,11 +1,5 @@
-pub mod Answer
-pub mod Bytes
-pub mod Check
-pub mod Mask
 pub mod Packet
 pub mod Rate
 pub mod Flags
 pub mod Sequence
-pub mod Time
 pub mod Checksum
-pub mod Cases

@@ -1,7 +1,7 @@
 // Rule 4: the flag byte. Each constant is a mask with one bit, so that a quotient by it moves the bit down.
 ghost use mathlib.Core.Path.{_≡_};
 ghost use Rattle.values.specs.Flags.{flagsOf, flagByte};
-use crate::bits::flag;
+use basis::flag;
 
 pub struct Flags {
     pub time_code: bool,

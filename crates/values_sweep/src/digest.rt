@@ -1,6 +1,6 @@
 // Digests of what is too much to print.
 use report::feed;
-use values::TimeCode;
+use times::TimeCode;
 
 // What a digest goes over.
 enum Block {

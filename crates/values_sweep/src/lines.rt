@@ -4,9 +4,9 @@ use crate::print;
 use crate::print::decimal;
 use crate::print::hex;
 use crate::print::word;
+use times::TimeCode;
 use values::Flags;
 use values::Framerate;
-use values::TimeCode;
 
 pub fn rate(id: u64) {
     let found = Framerate::from_id((id % 256) as u8);

@@ -1,7 +1,7 @@
 // Words, numbers and flags on standard output.
 use libc::STDOUT_FILENO;
+use times::TimeCode;
 use values::Framerate;
-use values::TimeCode;
 
 pub fn word(text: &[u8]) {
     io::write_all(STDOUT_FILENO, text);

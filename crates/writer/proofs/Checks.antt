@@ -8,23 +8,24 @@ use Prim.Native.Nat.{ℕ, _+_, _*_, _%_, _≤_, _<_}
 use native.Mathlib.Omega.{arith}
 use borrow.Author.Tests.{eq-eqb, ne-eqb, le-leb, lt-leb, leb-true, leb-false, eqb-true}
 use lib.Dec.{eqb, leb}
-use Rattle.values.proofs.Bools.{and-left, and-right}
+use Rattle.basis.proofs.Bools.{and-left, and-right}
 use Rattle.values.proofs.Rates.{above-table}
-use Rattle.values.proofs.Verdicts.{and-first, and-second, andThen, done-clear, done-shows, kept-first, kept-rest, refused-shows, refused-stays, verdict-append}
-use Rattle.values.specs.Answer.{UnknownFramerate, WrongCaptionRun, done, refused}
-use Rattle.values.specs.Check.{Check, Verdict, answer, check, clear, sizeWhen, verdict, when}
+use Rattle.basis.proofs.Verdicts.{and-first, and-second, andThen, done-clear, done-shows, kept-first, kept-rest, refused-shows, refused-stays, verdict-append}
+use Rattle.basis.specs.Answer.{UnknownFramerate, WrongCaptionRun, done, refused}
+use Rattle.basis.specs.Check.{Check, Verdict, answer, check, clear, sizeWhen, verdict, when}
 use Rattle.values.specs.Rate.{fromId, known}
-use Rattle.values.specs.Time.{timeWriteChecks, timeWritten}
+use Rattle.times.specs.Time.{timeWriteChecks, timeWritten}
 use Rattle.services.proofs.SectionWrites.{value-length}
-use Rattle.services.specs.ServiceList.{byteLen, countCheck, sectionLength}
+use Rattle.svc_entries.specs.Entries.{sectionLength}
+use Rattle.services.specs.ServiceList.{byteLen, countCheck}
 use Rattle.services.specs.Writing.{counted, entryWriteChecks, valueAnswer, valueChecks}
 use Rattle.writer.specs.Writing.{fullTriplets, packetChecks, packetLength, svcInfoChecks, svcInfoSize, timeCodeChecks, timeCodeSize}
 use Rattle.services.specs.declared.list.MaybeServiceInfo.{MaybeServiceInfo}
 use Rattle.services.specs.declared.list.ServiceInfo.{ServiceInfo}
-use Rattle.values.specs.declared.answer.Answer.{Answer}
+use Rattle.basis.specs.declared.answer.Answer.{Answer}
 use Rattle.values.specs.declared.framerate.Framerate.{Framerate}
 use Rattle.values.specs.declared.framerate.MaybeFramerate.{MaybeFramerate}
-use Rattle.values.specs.declared.time_code.MaybeTimeCode.{MaybeTimeCode}
+use Rattle.times.specs.declared.time_code.MaybeTimeCode.{MaybeTimeCode}
 use Rattle.writer.specs.declared.writer.CDPWriter.{CDPWriter}
 
 -- a part that may be held: its own checks decide where it is, and its size goes with 0

@@ -6,9 +6,9 @@ use mathlib.Core.List.{List}
 use Prim.Native.Nat.{ℕ, _≤_, _<_}
 use lib.Dec.{eqb}
 use lib.ListN.{length}
-use Rattle.values.specs.Answer.{BufferTooShort, done, refused}
-use Rattle.values.specs.Bytes.{over}
-use Rattle.values.specs.Check.{clear, verdict}
+use Rattle.basis.specs.Answer.{BufferTooShort, done, refused}
+use Rattle.basis.specs.Bytes.{over}
+use Rattle.basis.specs.Check.{clear, verdict}
 use Rattle.entries.proofs.EntryWrites.{Leaves, all-fits, no-room, room-done, values-refused}
 use Rattle.entries.specs.Writing.{written}
 use Rattle.writer.proofs.Checks.{packetAsked}

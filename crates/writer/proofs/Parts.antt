@@ -8,22 +8,22 @@ use native.Mathlib.Nat.{zero-add}
 use native.Mathlib.Omega.{arith}
 use lib.ListN.{length, drop, length-append, length-drop, take}
 use lib.Seq.{length-take-le}
-use Rattle.values.proofs.Puts.{over-nil, over-over, part-over, put-fits, put-put, take-over, take-put}
-use Rattle.values.proofs.Verdicts.{when-there}
-use Rattle.values.specs.Bytes.{over, put}
-use Rattle.values.specs.Check.{Verdict, clear, ifClear, sizeWhen, verdict}
+use Rattle.basis.proofs.Puts.{over-nil, over-over, part-over, put-fits, put-put, take-over, take-put}
+use Rattle.basis.proofs.Verdicts.{when-there}
+use Rattle.basis.specs.Bytes.{over, put}
+use Rattle.basis.specs.Check.{Verdict, clear, ifClear, sizeWhen, verdict}
 use Rattle.values.specs.Checksum.{negative, total}
 use Rattle.values.specs.Packet.{captionsId, timeCodeId}
-use Rattle.values.specs.Time.{timeBytes, timeWriteChecks, timeWritten}
+use Rattle.times.specs.Time.{timeBytes, timeWriteChecks, timeWritten}
 use Rattle.services.proofs.SectionWrites.{section-fits, section-length}
-use Rattle.services.specs.ServiceList.{sectionLength}
+use Rattle.svc_entries.specs.Entries.{sectionLength}
 use Rattle.services.specs.Writing.{sectionBytes, sectionWritten, valueChecks}
 use Rattle.writer.specs.Writing.{ccDataBytes, flagsOf, footerBytes, headerBytes, packetBytes, packetLength, svcInfoBytes, svcInfoChecks, svcInfoSize, timeCodeBytes, timeCodeChecks, timeCodeSize}
 use Rattle.services.specs.declared.list.MaybeServiceInfo.{MaybeServiceInfo}
 use Rattle.services.specs.declared.list.ServiceInfo.{ServiceInfo}
 use Rattle.values.specs.declared.flags.Flags.{Flags}
 use Rattle.values.specs.declared.framerate.Framerate.{Framerate}
-use Rattle.values.specs.declared.time_code.MaybeTimeCode.{MaybeTimeCode}
+use Rattle.times.specs.declared.time_code.MaybeTimeCode.{MaybeTimeCode}
 use Rattle.writer.specs.declared.writer.CDPWriter.{CDPWriter}
 
 -- a part that is put: where the next one begins, and the buffer

@@ -5,12 +5,12 @@ use mathlib.Core.Bool.{true, false}
 use Prim.Native.Nat.{_≤_, _<_}
 use borrow.Author.Tests.{le-leb, lt-leb}
 use lib.Dec.{eqb}
-use Rattle.values.proofs.Verdicts.{done-value, refused-shows}
-use Rattle.values.specs.Answer.{WouldOverflow, done, refused}
-use Rattle.values.specs.Check.{answer, verdict}
+use Rattle.basis.proofs.Verdicts.{done-value, refused-shows}
+use Rattle.basis.specs.Answer.{WouldOverflow, done, refused}
+use Rattle.basis.specs.Check.{answer, verdict}
 use Rattle.writer.specs.Writer.{countAnswer, holding, setChecks, setServiceInfo}
 use Rattle.services.specs.declared.list.MaybeServiceInfo.{MaybeServiceInfo}
-use Rattle.values.specs.declared.answer.Answer.{Answer}
+use Rattle.basis.specs.declared.answer.Answer.{Answer}
 use Rattle.writer.specs.declared.writer.CDPWriter.{CDPWriter}
 use Rattle.writer.specs.declared.writer.CDPWriterSet.{CDPWriterSet}
 

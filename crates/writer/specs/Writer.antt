@@ -2,12 +2,12 @@
 use mathlib.Core.Bool.{cond}
 use mathlib.Core.List.{List, [], _∷_}
 use Prim.Native.Nat.{ℕ}
-use Rattle.values.specs.Check.{Check, when, verdict, answer, ifClear}
-use Rattle.values.specs.Time.{timeAbsent}
+use Rattle.basis.specs.Check.{Check, when, verdict, answer, ifClear}
+use Rattle.times.specs.Time.{timeAbsent}
 use Rattle.services.specs.ServiceList.{countCheck, listAbsent}
 use Rattle.services.specs.declared.list.MaybeServiceInfo.{MaybeServiceInfo}
-use Rattle.values.specs.declared.answer.Answer.{Answer}
-use Rattle.values.specs.declared.time_code.MaybeTimeCode.{MaybeTimeCode}
+use Rattle.basis.specs.declared.answer.Answer.{Answer}
+use Rattle.times.specs.declared.time_code.MaybeTimeCode.{MaybeTimeCode}
 use Rattle.writer.specs.declared.writer.CDPWriter.{CDPWriter}
 use Rattle.writer.specs.declared.writer.CDPWriterSet.{CDPWriterSet}
 

@@ -4,21 +4,21 @@ use mathlib.Core.List.{List, [], _∷_, _++_}
 use Prim.Native.Nat.{ℕ, _+_, _*_, _/_, _%_}
 use lib.Dec.{eqb, leb}
 use lib.ListN.{length}
-use Rattle.values.specs.Answer.{UnknownFramerate, WrongCaptionRun}
-use Rattle.values.specs.Check.{Check, check, when, sizeWhen, verdict}
+use Rattle.basis.specs.Answer.{UnknownFramerate, WrongCaptionRun}
+use Rattle.basis.specs.Check.{Check, check, when, sizeWhen, verdict}
 use Rattle.values.specs.Checksum.{total, negative}
 use Rattle.values.specs.Flags.{flagByte}
 use Rattle.values.specs.Packet.{timeCodeId, captionsId, footerId}
 use Rattle.values.specs.Rate.{known}
 use Rattle.values.specs.Sequence.{sequenceBytes}
-use Rattle.values.specs.Time.{timeWriteChecks, timeBytes}
+use Rattle.times.specs.Time.{timeWriteChecks, timeBytes}
 use Rattle.entries.specs.Writing.{Written, written, roomCheck}
-use Rattle.services.specs.ServiceList.{sectionLength}
+use Rattle.svc_entries.specs.Entries.{sectionLength}
 use Rattle.services.specs.Writing as Section
 use Rattle.services.specs.declared.list.MaybeServiceInfo.{MaybeServiceInfo}
 use Rattle.values.specs.declared.flags.Flags.{Flags}
 use Rattle.values.specs.declared.framerate.Framerate.{Framerate}
-use Rattle.values.specs.declared.time_code.MaybeTimeCode.{MaybeTimeCode}
+use Rattle.times.specs.declared.time_code.MaybeTimeCode.{MaybeTimeCode}
 use Rattle.writer.specs.declared.writer.CDPWriter.{CDPWriter}
 
 -- a caption run has at most 93 bytes, three for each triplet

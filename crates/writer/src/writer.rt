@@ -1,10 +1,10 @@
 // The writer's values, and the calls that set them.
 ghost use mathlib.Core.Path.{_≡_};
 ghost use Rattle.writer.specs.Writer as Writer;
+use basis::Answer;
 use services::MaybeServiceInfo;
 use services::ServiceInfo;
-use values::Answer;
-use values::MaybeTimeCode;
+use times::MaybeTimeCode;
 
 // What goes into the next packets, until it is set anew: writing changes none of it.
 pub struct CDPWriter {

@@ -3,19 +3,19 @@ ghost use mathlib.Core.Path.{_≡_};
 ghost use mathlib.Core.List.{_++_, _∷_, []};
 ghost use Prim.Native.Nat.{_+_, _≤_};
 ghost use lib.ListN.{length, take};
-ghost use Rattle.values.specs.Bytes as Bytes;
-ghost use Rattle.values.specs.Check.{verdict, answer, clear};
+ghost use Rattle.basis.specs.Bytes as Bytes;
+ghost use Rattle.basis.specs.Check.{verdict, answer, clear};
 ghost use Rattle.values.specs.Checksum.{total, negative};
 ghost use Rattle.writer.specs.Writing as Writing;
 use crate::writer::CDPWriter;
+use basis::Answer;
+use basis::put;
 use services::MaybeServiceInfo;
-use values::Answer;
+use times::MaybeTimeCode;
 use values::Flags;
 use values::Framerate;
-use values::MaybeTimeCode;
 use values::Packet;
 use values::checksum_byte;
-use values::put;
 use values::sequence_bytes;
 
 impl CDPWriter {

@@ -10,7 +10,7 @@ use denote.Ref.{now}
 use lib.Dec.{eqb}
 use Rattle.sections.specs.Header.{headerRead}
 use Rattle.reader.specs.Packet.{captionLength, refusedPacket}
-use Rattle.values.specs.Answer.{done}
+use Rattle.basis.specs.Answer.{done}
 use Rattle.reader.proofs.PacketReads.{captionsAsked, cc-data-is, cc-data-near, cc-data-refused, closing-near, closing-refused, header-is, header-refused, headerShown, servicesAsked, packet-whole, servicesShown, svc-info-is, svc-info-near, svc-info-refused, time-code-is, time-code-refused, timeAsked, timeShown}
 use borrow.Author.Needs.{needs}
 use Rattle.reader.proofs.packet.PacketRead.parse.Statement.{statement}

@@ -1,84 +1,51 @@
--- `services::ServiceInfo::parse` is rules S1 to S4, and then the entries.
+-- `services::ServiceInfo::parse`: the entries are refused, or they are the list's beside its flags.
 -- Assumes nothing.
-use mathlib.Core.Path.{_∙_}
+use mathlib.Core.Path.{_∙_, sym}
 use native.Mathlib.Omega.{arith}
-use Rattle.services.proofs.SectionReads.{too-short, other-id, no-80, other-size}
+use borrow.Author.Tests.{not-true, not-false}
+use Rattle.services.proofs.SectionReads.{list-refused, list-read, two-bytes}
 use borrow.Author.Needs.{needs}
 use Rattle.services.proofs.list.ServiceInfo.parse.Statement.{statement}
 use Rattle.services.proofs.list.ServiceInfo.parse.Tie as tie
 
-length-mismatch-requires : tie.Need-length-mismatch-requires
-length-mismatch-requires c κs = search needs
+read-entries-requires : tie.Need-read-entries-requires
+read-entries-requires c κs = search needs
+
+is-done-requires : tie.Need-is-done-requires
+is-done-requires c κs = search needs
 
 refused-requires : tie.Need-refused-requires
 refused-requires c κs = search needs
 
 returns : tie.Need-returns
-returns c = c .refused .ensures ∙ rw (c .before .length-mismatch .ensures) (too-short _ (omega arith))
-
-shared-slice-read-if2 : tie.Need-shared-slice-read-if2
-shared-slice-read-if2 c = search needs
-
-refused-requires-2 : tie.Need-refused-requires-2
-refused-requires-2 c κs = search needs
-
-returns-2 : tie.Need-returns-2
-returns-2 c = c .refused2 .ensures ∙ other-id _ (omega arith) (c .before .if2 .taken)
+returns c =
+    let done = c .before .before in
+    let e = done .before .before .read-entries .ensures in
+    c .refused .ensures ∙ rw e (list-refused _ (rw e at (sym (done .is-done .ensures) ∙ not-true _ (c .before .if1 .taken))))
 
 shared-slice-read-header : tie.Need-shared-slice-read-header
-shared-slice-read-header c = search needs
+shared-slice-read-header c =
+    let s = c .before .before in
+    let e = s .before .before .before .read-entries .ensures in
+    omega (arith, two-bytes _ (rw e at (sym (s .before .is-done .ensures) ∙ not-false _ (s .if1 .left))))
 
-refused-requires-3 : tie.Need-refused-requires-3
-refused-requires-3 c κs = search needs
+cast-t17 : tie.Need-cast-t17
+cast-t17 c = search needs
 
-returns-3 : tie.Need-returns-3
-returns-3 c = c .refused3 .ensures ∙ no-80 _ (omega arith) (c .before .before .before .if2 .left) (c .before .if3 .taken)
-
-cast-expected : tie.Need-cast-expected
-cast-expected c = search needs
-
-mul-expected : tie.Need-mul-expected
-mul-expected c = search needs
-
-add-expected : tie.Need-add-expected
-add-expected c = search needs
-
-length-mismatch-requires-2 : tie.Need-length-mismatch-requires-2
-length-mismatch-requires-2 c κs = search needs
-
-refused-requires-4 : tie.Need-refused-requires-4
-refused-requires-4 c κs = search needs
-
-returns-4 : tie.Need-returns-4
-returns-4 c =
-    let s = c .before .before .before in
-    c .refused4 .ensures
-    ∙ rw (c .before .length-mismatch2 .ensures) (other-size _ (omega arith) (s .before .before .if2 .left) (s .if3 .left) (λ h. omega arith))
-
-entries-requires : tie.Need-entries-requires
-entries-requires c κs = search needs
-
-returns-5 : tie.Need-returns-5
-returns-5 c = search needs
+returns-2 : tie.Need-returns-2
+returns-2 c =
+    let s = c .before .before in
+    let e = s .before .before .before .read-entries .ensures in
+    rw e (list-read _ (rw e at (sym (s .before .is-done .ensures) ∙ not-false _ (s .if1 .left))))
 
 pub parse-spec : {M : Type 1} → statement M
 parse-spec =
     tie.close
     (tie.spec
-    length-mismatch-requires
+    read-entries-requires
+    is-done-requires
     refused-requires
     returns
-    shared-slice-read-if2
-    refused-requires-2
-    returns-2
     shared-slice-read-header
-    refused-requires-3
-    returns-3
-    cast-expected
-    mul-expected
-    add-expected
-    length-mismatch-requires-2
-    refused-requires-4
-    returns-4
-    entries-requires
-    returns-5)
+    cast-t17
+    returns-2)

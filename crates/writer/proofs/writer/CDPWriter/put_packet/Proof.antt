@@ -5,7 +5,7 @@ use mathlib.Core.Path.{_∙_, ap, ap₂}
 use Prim.Native.Nat.{ℕ}
 use native.Mathlib.Omega.{arith}
 use lib.ListN.{length}
-use Rattle.values.specs.Bytes.{put}
+use Rattle.basis.specs.Bytes.{put}
 use Rattle.writer.proofs.Checks.{accepted, known-id, length-most}
 use Rattle.writer.proofs.Parts.{packet-put}
 use Rattle.writer.specs.Writing.{headerBytes}

@@ -2,7 +2,7 @@
 -- Assumes nothing.
 use mathlib.Core.Path.{_∙_, ap, sym}
 use lib.ListN.{length}
-use Rattle.values.specs.declared.answer.Answer.{Answer}
+use Rattle.basis.specs.declared.answer.Answer.{Answer}
 use borrow.Author.Tests.{not-true, not-false}
 use Rattle.writer.proofs.Checks.{packet-asked}
 use Rattle.writer.proofs.PacketWrites.{packet-fits, packet-no-room, packet-refused}

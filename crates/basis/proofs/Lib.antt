@@ -1,0 +1,4 @@
+pub mod Bools
+pub mod Masks
+pub mod Puts
+pub mod Verdicts

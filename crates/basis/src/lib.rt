@@ -1,0 +1,8 @@
+// What every layer rests on: answers and the checks that they come of, bits, and bytes in a lent buffer.
+mod answer;
+mod bits;
+mod buffer;
+
+pub use answer::Answer;
+pub use bits::flag;
+pub use buffer::put;
