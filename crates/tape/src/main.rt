@@ -1,10 +1,12 @@
 // Reads a tape from standard input and prints its transcript; docs/TAPE.md has the form of both. The file stdout beside
 // src/ is what the oracle prints for the tape in the file stdin.
 mod calls;
+mod held;
 mod lent;
 mod lists;
 mod operation;
 mod packet;
+mod packet_write;
 mod print;
 mod read;
 mod show;

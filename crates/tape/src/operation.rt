@@ -1,6 +1,7 @@
 // One line of a tape: its first letter says which operation it is.
 use crate::calls;
 use crate::packet;
+use crate::packet_write;
 use crate::print;
 use crate::read;
 use crate::write;
@@ -56,7 +57,7 @@ fn without_reader(
     s
 }
 
-// An operation that the port does not have yet is malformed.
+// A letter that no operation has is malformed.
 fn printed(
     line: &[u8],
     letter: u8,
@@ -69,6 +70,7 @@ fn printed(
         b'S' => read::section(line, given, out, at),
         b'E' => read::entry(line, given, out, at),
         b'T' => calls::calls(line, out, at),
+        b'W' => packet_write::write(line, given, lent, out, at),
         b'L' => write::section(line, lent, out, at),
         b'N' => write::entry(line, lent, out, at),
         _ => malformed(out, at),

@@ -52,7 +52,7 @@ fn entry_into(entry: ServiceEntry, lent: &mut [u8], out: &mut [u8], at: usize) -
 }
 
 // The answer and the whole of the lent bytes.
-fn written(answer: Answer, lent: &[u8], out: &mut [u8], at: usize) -> usize {
+pub fn written(answer: Answer, lent: &[u8], out: &mut [u8], at: usize) -> usize {
     let answered = show::answer(out, at, answer);
     lent::show(out, answered, lent)
 }

@@ -9,6 +9,7 @@ mod boundary;
 mod damaged;
 mod entries;
 mod future;
+mod limits;
 mod lists;
 mod packet;
 mod parts;
@@ -31,7 +32,7 @@ type Step = fn(&mut Random, &mut Tape, u64);
 /// Name, share of the lines in hundredths, and what it prints.
 struct Family(&'static str, u64, Step);
 
-static FAMILIES: [Family; 14] = [
+static FAMILIES: [Family; 15] = [
     Family("short", 8, short::step),
     Family("boundary", 10, boundary::step),
     Family("damaged", 12, damaged::step),
@@ -43,7 +44,8 @@ static FAMILIES: [Family; 14] = [
     Family("sections", 6, sections::step),
     Family("entries", 5, entries::step),
     Family("lists", 3, lists::step),
-    Family("writes", 8, writes::step),
+    Family("writes", 6, writes::step),
+    Family("limits", 2, limits::step),
     Family("pieces", 4, pieces::step),
     Family("bad", 2, bad::step),
 ];

@@ -77,10 +77,17 @@ pub fn digital(rng: &mut Random, number: u8) -> String {
     )
 }
 
+pub fn field(rng: &mut Random, which: usize) -> String {
+    format!("f:{}:{}", which, bytes(&parts::language(rng)))
+}
+
 /// An entry that can be written.
 pub fn entry(rng: &mut Random) -> String {
     match rng.below(4) {
-        0 => format!("f:{}:{}", 1 + flag(rng), bytes(&parts::language(rng))),
+        0 => {
+            let which = 1 + flag(rng);
+            field(rng, which)
+        }
         1 => {
             let number = rng.pick(&[1, 31, 32, 62, 63]);
             digital(rng, number)
@@ -97,7 +104,14 @@ pub fn entries(rng: &mut Random, count: usize) -> Vec<String> {
 }
 
 pub fn list(rng: &mut Random, entries: &[String]) -> String {
-    let mut text = format!("{},{},{}", flag(rng), flag(rng), flag(rng));
+    let flags = [flag(rng), flag(rng), flag(rng)];
+    flagged(flags, entries)
+}
+
+/// The flags are start, change and complete.
+pub fn flagged(flags: [usize; 3], entries: &[String]) -> String {
+    let [start, change, complete] = flags;
+    let mut text = format!("{},{},{}", start, change, complete);
     for entry in entries {
         text.push(';');
         text += entry;

@@ -6,65 +6,72 @@ use crate::tape::{bytes, decimal, Tape};
 use crate::values;
 
 /// What one line asks to be written.
-struct Held {
-    rate: (u8, u32, u32),
-    time: Option<[u8; 4]>,
-    captions: usize,
-    entries: Option<Vec<String>>,
+pub struct Held {
+    pub rate: (u8, u32, u32),
+    pub sequence: u16,
+    pub time: Option<[u8; 4]>,
+    pub captions: usize,
+    /// A list's word, and how many entries it has.
+    pub services: Option<(String, usize)>,
 }
 
 impl Held {
-    fn good(rng: &mut Random) -> Held {
+    pub fn good(rng: &mut Random) -> Held {
         let entries = parts::count(rng, 15);
         Held {
             rate: rng.pick(&values::RATES),
+            sequence: parts::sequence(rng),
             time: if rng.chance(3) {
                 None
             } else {
                 Some(values::good_time(rng))
             },
             captions: 3 * parts::count(rng, 31),
-            entries: if rng.chance(3) {
+            services: if rng.chance(3) {
                 None
             } else {
-                Some(values::entries(rng, entries))
+                let entries = values::entries(rng, entries);
+                listed(rng, &entries)
             },
         }
     }
 
-    fn longest(rng: &mut Random) -> Held {
+    pub fn longest(rng: &mut Random) -> Held {
+        let entries = values::entries(rng, 15);
         Held {
             rate: rng.pick(&values::RATES),
+            sequence: parts::sequence(rng),
             time: Some(values::good_time(rng)),
             captions: 93,
-            entries: Some(values::entries(rng, 15)),
+            services: listed(rng, &entries),
         }
     }
 
-    fn size(&self) -> usize {
+    pub fn size(&self) -> usize {
         let time = if self.time.is_some() { 5 } else { 0 };
-        let services = self.entries.as_ref().map_or(0, |all| 2 + 7 * all.len());
+        let services = self.services.as_ref().map_or(0, |list| 2 + 7 * list.1);
         7 + time + 2 + self.captions + services + 4
     }
 
-    fn line(&self, rng: &mut Random, room: &str) -> String {
+    pub fn line(&self, rng: &mut Random, room: &str) -> String {
         let rate = values::rate(rng, self.rate);
-        let sequence = parts::sequence(rng);
-        let sequence = decimal(rng, sequence.into());
+        let sequence = decimal(rng, self.sequence.into());
         let time = match self.time {
             None => "-".to_string(),
             Some(four) => values::time(rng, four),
         };
         let captions = bytes(&rng.bytes(self.captions));
-        let services = match &self.entries {
-            None => "-".to_string(),
-            Some(entries) => values::list(rng, entries),
-        };
+        let services = self.services.as_ref().map_or("-", |list| &list.0);
         format!(
             "W {} {} {} {} {} {}",
             room, rate, sequence, time, captions, services
         )
     }
+}
+
+/// A list of these entries, held, with any of the three flags.
+pub fn listed(rng: &mut Random, entries: &[String]) -> Option<(String, usize)> {
+    Some((values::list(rng, entries), entries.len()))
 }
 
 pub fn step(rng: &mut Random, tape: &mut Tape, turn: u64) {
@@ -98,7 +105,8 @@ fn limit(rng: &mut Random, held: &mut Held) {
         4 => held.captions = rng.pick(&[0, 3, 90, 93, 93, 1, 2, 4, 92, 94, 95, 96, 99, 186]),
         5 => {
             let count = rng.pick(&[14, 15, 15, 16, 17, 31, 40]);
-            held.entries = Some(values::entries(rng, count));
+            let entries = values::entries(rng, count);
+            held.services = listed(rng, &entries);
         }
         6 => held.rate = values::wrong_rate(rng),
         _ => {
@@ -106,7 +114,7 @@ fn limit(rng: &mut Random, held: &mut Held) {
             let mut entries = values::entries(rng, count);
             let number = values::edge_number(rng);
             entries[rng.below(count)] = values::digital(rng, number);
-            held.entries = Some(entries);
+            held.services = listed(rng, &entries);
         }
     }
 }

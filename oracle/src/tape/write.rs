@@ -58,6 +58,45 @@ fn lend(letter: char, room: usize, written: &[u8]) -> Option<String> {
     Some(format!("{} {} buf {}", letter, answer, Bytes(&lent)))
 }
 
+/// A writer that held other values, captions among them, before it was flushed.
+fn flushed() -> CDPWriter {
+    let mut list = ServiceInfo::default();
+    list.set_change(true);
+    list.add_service(ServiceEntry::new([0; 3], FieldOrService::Field(true)))
+        .expect("an empty list has room");
+    let mut writer = CDPWriter::new();
+    writer.set_sequence_count(0x0506);
+    writer.set_time_code(Some(TimeCode::new(1, 2, 3, 4, true, true)));
+    writer.push_packet(DTVCCPacket(vec![0xFC, 0x41, 0x42]));
+    writer.set_service_info(Some(list));
+    writer.flush();
+    writer
+}
+
+/// What a line does not hold, and sequence 0, are not set: they are as the flush left them.
+fn holding(held: &Held, services: Option<ServiceInfo>) -> CDPWriter {
+    let mut writer = flushed();
+    if held.sequence != 0 {
+        writer.set_sequence_count(held.sequence);
+    }
+    if held.time.is_some() {
+        writer.set_time_code(held.time);
+    }
+    if services.is_some() {
+        writer.set_service_info(services);
+    }
+    writer
+}
+
+fn one_packet(writer: &mut CDPWriter, rate: Framerate, captions: &[u8]) -> Vec<u8> {
+    let mut written = Vec::new();
+    writer.push_packet(DTVCCPacket(captions.to_vec()));
+    writer
+        .write(rate, &mut written)
+        .expect("a vector takes all");
+    written
+}
+
 fn packet_text(room: usize, held: Held) -> Option<String> {
     let rate = known_rate(held.rate)?;
     if !captions_fit(&held.captions) || !held.time.as_ref().map_or(true, time_fits) {
@@ -67,15 +106,11 @@ fn packet_text(room: usize, held: Held) -> Option<String> {
         None => None,
         Some(list) => Some(info(list)?),
     };
-    let mut writer = CDPWriter::new();
-    writer.set_sequence_count(held.sequence);
-    writer.set_time_code(held.time);
-    writer.push_packet(DTVCCPacket(held.captions));
-    writer.set_service_info(services);
-    let mut written = Vec::new();
-    writer
-        .write(rate, &mut written)
-        .expect("a vector takes all");
+    let mut writer = holding(&held, services);
+    let written = one_packet(&mut writer, rate, &held.captions);
+    // The port's writer is a value that writing cannot change; neither does the Rust change what it holds.
+    let again = one_packet(&mut writer, rate, &held.captions);
+    assert_eq!(again, written, "writing changed what is held");
     lend('W', room, &written)
 }
 
