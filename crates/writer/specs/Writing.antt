@@ -5,14 +5,15 @@ use Prim.Native.Nat.{ℕ, _+_, _*_, _/_, _%_}
 use lib.Dec.{eqb, leb}
 use lib.ListN.{length}
 use Rattle.basis.specs.Answer.{UnknownFramerate, WrongCaptionRun}
-use Rattle.basis.specs.Check.{Check, check, when, sizeWhen, verdict}
+use Rattle.basis.specs.Bytes.{over}
+use Rattle.basis.specs.Check.{Check, check, when, sizeWhen, verdict, answer, ifClear}
 use Rattle.values.specs.Checksum.{total, negative}
 use Rattle.values.specs.Flags.{flagByte}
 use Rattle.values.specs.Packet.{timeCodeId, captionsId, footerId}
 use Rattle.values.specs.Rate.{known}
 use Rattle.values.specs.Sequence.{sequenceBytes}
 use Rattle.times.specs.Time.{timeWriteChecks, timeBytes}
-use Rattle.entries.specs.Writing.{Written, written, roomCheck}
+use Rattle.entries.specs.Writing.{Written, roomCheck}
 use Rattle.svc_entries.specs.Entries.{sectionLength}
 use Rattle.services.specs.Writing as Section
 use Rattle.services.specs.declared.list.MaybeServiceInfo.{MaybeServiceInfo}
@@ -99,8 +100,9 @@ packetBytes w rate captions =
     let bytes = summedBytes w rate captions in
     bytes ++ negative (total bytes) ∷ []
 
--- what writing a packet leaves: room is tested last
+-- what writing a packet leaves: room is tested last; on 0 the bytes past the packet stay, beside a refusal all of them
 unfoldable pub packetWritten : CDPWriter → Framerate → List ℕ → List ℕ → Written
 packetWritten w rate captions buffer =
     let run = length captions in
-    written (verdict (packetChecks w rate run ++ roomCheck (packetLength w run) buffer ∷ [])) (packetBytes w rate captions) buffer
+    let v = verdict (packetChecks w rate run ++ roomCheck (packetLength w run) buffer ∷ []) in
+    record { answer = answer v (packetLength w run); buffer = ifClear v (over 0 (packetBytes w rate captions) buffer) buffer }

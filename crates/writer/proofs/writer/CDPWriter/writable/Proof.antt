@@ -22,10 +22,10 @@ returns : tie.Need-returns
 returns c = other-rate (c .before .before .args .self) (c .before .before .args .framerate) (c .before .before .args .run) (sym (c .before .is-known .ensures) ∙ not-true _ (c .if1 .taken))
 
 returns-2 : tie.Need-returns-2
-returns-2 c = run-long (c .before .before .before .args .self) (c .before .before .before .args .framerate) (c .before .before .before .args .run) (sym (c .before .before .is-known .ensures) ∙ not-false _ (c .before .if1 .left)) (c .if2 .taken)
+returns-2 c = run-long (c .before .before .before .args .self) (c .before .before .before .args .framerate) (c .before .before .before .args .run) (sym (c .before .before .is-known .ensures) ∙ not-false _ (c .before .if1 .left)) (omega (arith, c .if2 .taken))
 
 returns-3 : tie.Need-returns-3
-returns-3 c = run-cut (c .before .before .before .before .args .self) (c .before .before .before .before .args .framerate) (c .before .before .before .before .args .run) (sym (c .before .before .before .is-known .ensures) ∙ not-false _ (c .before .before .if1 .left)) (c .before .if2 .left) (c .if3 .taken)
+returns-3 c = run-cut (c .before .before .before .before .args .self) (c .before .before .before .before .args .framerate) (c .before .before .before .before .args .run) (sym (c .before .before .before .is-known .ensures) ∙ not-false _ (c .before .before .if1 .left)) (omega (arith, c .before .if2 .left)) (λ h. omega (arith, c .if3 .taken))
 
 time-code-size-requires : tie.Need-time-code-size-requires
 time-code-size-requires c κs = search needs
