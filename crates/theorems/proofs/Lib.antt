@@ -4,4 +4,5 @@ pub mod SectionsBack
 pub mod FooterBack
 pub mod PartsBack
 pub mod RoundTrip
+pub mod ListBack
 pub mod Cases

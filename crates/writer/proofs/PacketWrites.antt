@@ -6,12 +6,13 @@ use mathlib.Core.List.{List, [], _∷_, _++_}
 use Prim.Native.Nat.{ℕ, _≤_, _<_}
 use lib.Dec.{eqb}
 use lib.ListN.{length}
+use Rattle.basis.proofs.Verdicts.{refused-shows}
 use Rattle.basis.specs.Answer.{BufferTooShort, done, refused}
 use Rattle.basis.specs.Bytes.{over}
 use Rattle.basis.specs.Check.{Verdict, answer, clear, ifClear, verdict}
 use Rattle.entries.proofs.EntryWrites.{Leaves, all-fits, no-room, room-done, roomLast, values-refused}
 use Rattle.entries.specs.Writing.{Written, roomCheck, written}
-use Rattle.writer.proofs.Checks.{packetAsked}
+use Rattle.writer.proofs.Checks.{length-most, packetAsked}
 use Rattle.writer.proofs.Parts.{packet-length}
 use Rattle.writer.specs.Writing.{packetBytes, packetChecks, packetLength, packetWritten}
 use Rattle.basis.specs.declared.answer.Answer.{Answer}
@@ -54,3 +55,18 @@ module _ (w : CDPWriter) (rate : Framerate) (captions buffer : List ℕ) where
   packet-done h =
       let both = room-done (packetChecks w rate run) (packetLength w run) (packetBytes w rate captions) buffer (rw (← as-written) at h) in
       (both .0, sym as-written ∙ both .1)
+
+  -- The longest packet that is ever written has 218 bytes.
+  pub written-most : eqb (packetWritten w rate captions buffer .answer .number) 0 ≡ true → packetWritten w rate captions buffer .answer .first ≤ 218
+  written-most h =
+      let both = packet-done h in
+      let size : packetWritten w rate captions buffer .answer .first ≡ packetLength w run =
+      ap (λ (r : Written). r .answer .first) (both .1) ∙ packet-length w rate captions in
+      rw size (length-most w rate run (both .0))
+
+  -- A refusal writes no byte.
+  pub refusal-writes-nothing : eqb (packetWritten w rate captions buffer .answer .number) 0 ≡ false → packetWritten w rate captions buffer .buffer ≡ buffer
+  unfolding packetWritten
+  refusal-writes-nothing h =
+      let v : Verdict = verdict (packetChecks w rate run ++ roomCheck (packetLength w run) buffer ∷ []) in
+      sym (refused-shows (λ (a : Answer) (b : List ℕ). b) v (packetLength w run) 0 (over 0 (packetBytes w rate captions) buffer) buffer h)
