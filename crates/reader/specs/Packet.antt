@@ -4,13 +4,13 @@ use Prim.Native.Nat.{ℕ, _+_}
 use lib.ListN.{length}
 use Rattle.basis.specs.Check.{Check, when, sizeWhen, verdict, answer, ifClear}
 use Rattle.values.specs.Rate.{noRate}
-use Rattle.times.specs.Time.{timeAbsent}
+use Rattle.times.specs.Time.{timeAbsent, timeSize}
 use Rattle.services.specs.ServiceList.{listAbsent}
 use Rattle.sections.specs.CcData.{ccDataChecks, ccDataSize}
 use Rattle.footer.specs.Footer.{closingChecks, footerFrom}
 use Rattle.sections.specs.Header.{headerChecks, rateOf, flagsIn, sequenceIn}
 use Rattle.svc_section.specs.SvcInfo.{svcInfoChecks, svcInfoSize, svcInfoOf}
-use Rattle.sections.specs.TimeCode.{timeCodeChecks, timeCodeSize, timeCodeOf}
+use Rattle.sections.specs.TimeCode.{timeCodeChecks, timeCodeOf}
 use Rattle.reader.specs.declared.packet.PacketRead.{PacketRead}
 use Rattle.reader.specs.declared.parser.CDPParser.{CDPParser}
 use Rattle.services.specs.declared.list.MaybeServiceInfo.{MaybeServiceInfo}
@@ -23,7 +23,7 @@ abbrev pub timeCodeAt : ℕ
 timeCodeAt = 7
 
 abbrev pub ccDataAt : List ℕ → ℕ
-ccDataAt p = timeCodeAt + sizeWhen (flagsIn p .«time_code») timeCodeSize
+ccDataAt p = timeCodeAt + sizeWhen (flagsIn p .«time_code») timeSize
 
 -- how many bytes are handed out, 0 without a caption section
 abbrev pub captionLength : List ℕ → ℕ

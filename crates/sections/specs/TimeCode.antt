@@ -7,30 +7,30 @@ use Rattle.basis.specs.Answer.{WrongMagic}
 use Rattle.basis.specs.Bytes.{byte}
 use Rattle.basis.specs.Check.{Check, check, when, sizeWhen, verdict, answer, ifClear}
 use Rattle.values.specs.Packet.{timeCodeId}
-use Rattle.times.specs.Time.{timeChecks, timeOf, timePresent, timeAbsent}
+use Rattle.times.specs.Time.{timeChecks, timeOf, timePresent, timeAbsent, timeSize}
 use Rattle.sections.specs.Section.{sizeCheck}
 use Rattle.sections.specs.declared.time_code.TimeCodeSection.{TimeCodeSection}
 use Rattle.basis.specs.declared.answer.Answer.{Answer}
 use Rattle.times.specs.declared.time_code.MaybeTimeCode.{MaybeTimeCode}
 use Rattle.times.specs.declared.time_code.TimeCode.{TimeCode}
 
-abbrev pub timeCodeSize : ℕ
-timeCodeSize = 5
+-- the four bytes behind the id byte, and what is made of them
+abbrev pub ofFour : {A : Type 0} → (ℕ → ℕ → ℕ → ℕ → A) → List ℕ → ℕ → A
+ofFour f p i = f (byte p (i + 1)) (byte p (i + 2)) (byte p (i + 3)) (byte p (i + 4))
 
--- the four bytes behind the id byte
 abbrev pub fourBehind : List ℕ → ℕ → List ℕ
-fourBehind p i = byte p (i + 1) ∷ byte p (i + 2) ∷ byte p (i + 3) ∷ byte p (i + 4) ∷ []
+fourBehind p i = ofFour (λ (a b c d : ℕ). a ∷ b ∷ c ∷ d ∷ []) p i
 
 -- n is at least i+5; byte i is 71; then the fixed bits of the four bytes behind it
 abbrev pub timeCodeChecks : List ℕ → ℕ → List Check
 timeCodeChecks p i =
-    sizeCheck p (i + 5)
+    sizeCheck p (i + timeSize)
     ∷ check (eqb (byte p i) timeCodeId) WrongMagic
-    ∷ timeChecks (byte p (i + 1)) (byte p (i + 2)) (byte p (i + 3)) (byte p (i + 4))
+    ∷ ofFour timeChecks p i
 
 -- what the four bytes say
 abbrev pub timeCodeIn : List ℕ → ℕ → TimeCode
-timeCodeIn p i = timeOf (byte p (i + 1)) (byte p (i + 2)) (byte p (i + 3)) (byte p (i + 4))
+timeCodeIn p i = ofFour timeOf p i
 
 -- absent where the flag is clear
 abbrev pub timeCodeOf : List ℕ → Bool → ℕ → MaybeTimeCode
@@ -41,7 +41,7 @@ unfoldable pub timeCodeRead : List ℕ → Bool → ℕ → TimeCodeSection
 timeCodeRead p present i =
     let v = verdict (when present (timeCodeChecks p i)) in
     record {
-      answer = answer v (sizeWhen present timeCodeSize);
+      answer = answer v (sizeWhen present timeSize);
       «time_code» = ifClear v (timeCodeOf p present i) timeAbsent;
     }
 
