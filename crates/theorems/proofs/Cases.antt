@@ -10,7 +10,7 @@ use Rattle.services.specs.Section.{listOf, sectionRead}
 use Rattle.footer.specs.Footer.{closingChecks}
 use Rattle.reader.specs.Packet.{packetChecks, shownBy}
 use Rattle.reader.specs.Reader.{read}
-use Rattle.writer.specs.Writing.{packetBytes, packetWritten}
+use Rattle.packing.specs.Writing.{packetBytes, packetWritten}
 use Rattle.theorems.specs.Cases.{Cases}
 
 pub cases : Cases

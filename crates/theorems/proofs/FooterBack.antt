@@ -15,7 +15,7 @@ use Rattle.values.specs.Checksum.{negative, total}
 use Rattle.values.specs.Packet.{footerId}
 use Rattle.footer.proofs.ClosingReads.{begins, footer-reached, footer-whole}
 use Rattle.footer.specs.Footer.{checksumOf, closingChecks, closingRead}
-use Rattle.writer.specs.Writing.{footerBytes}
+use Rattle.packing.specs.Writing.{footerBytes}
 use Rattle.theorems.proofs.Places.{byte-on}
 use Rattle.basis.specs.declared.answer.Answer.{Answer}
 

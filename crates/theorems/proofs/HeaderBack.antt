@@ -15,8 +15,8 @@ use Rattle.basis.specs.Mask.{flag, under, x80, x40, x20, x10, x08, x04}
 use Rattle.values.specs.Rate.{find, fromId, known, present, rates}
 use Rattle.services.proofs.SectionBack.{bit-back}
 use Rattle.sections.specs.Header.{headerChecks, rateOf, sequenceIn}
-use Rattle.writer.proofs.Checks.{known-id}
-use Rattle.writer.specs.Writing.{headerBytes}
+use Rattle.packing.proofs.Checks.{known-id}
+use Rattle.packing.specs.Writing.{headerBytes}
 use Rattle.values.specs.declared.flags.Flags.{Flags}
 use Rattle.values.specs.declared.framerate.Framerate.{Framerate}
 use Rattle.values.specs.declared.framerate.MaybeFramerate.{MaybeFramerate}

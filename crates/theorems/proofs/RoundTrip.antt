@@ -27,12 +27,12 @@ use Rattle.svc_section.specs.SvcInfo.{svcInfoChecks, svcInfoOf, svcInfoSize}
 use Rattle.reader.proofs.PacketReads.{in-order}
 use Rattle.reader.specs.Packet.{captionLength, ccDataAt, closingAt, packetChecks, shownBy, svcInfoAt}
 use Rattle.reader.specs.Reader.{bufferAfter, captionsOf, cleared, read}
-use Rattle.writer.proofs.Checks.{Accepted, accepted}
-use Rattle.writer.proofs.PacketWrites.{packet-done}
-use Rattle.writer.proofs.Parts.{packet-length, services-length, time-length}
-use Rattle.writer.specs.Writer.{heldTime}
-use Rattle.writer.specs.Writing as Writing
-use Rattle.writer.specs.Writing.{ccDataBytes, flagsOf, footerBytes, headerBytes, packetBytes, packetLength, packetWritten, summedBytes, svcInfoBytes, timeCodeBytes}
+use Rattle.packing.proofs.Checks.{Accepted, accepted}
+use Rattle.packing.proofs.PacketWrites.{packet-done}
+use Rattle.packing.proofs.Parts.{packet-length, services-length, time-length}
+use Rattle.writer.specs.Writer.{heldTime, packetWritten}
+use Rattle.packing.specs.Writing as Writing
+use Rattle.packing.specs.Writing.{ccDataBytes, flagsOf, footerBytes, headerBytes, packetBytes, packetLength, summedBytes, svcInfoBytes, timeCodeBytes}
 use Rattle.theorems.proofs.FooterBack.{checksum-is, closing-clear}
 use Rattle.theorems.proofs.HeaderBack.{flags-back, header-clear, rate-back, sequence-back}
 use Rattle.theorems.proofs.PartsBack.{ServicesHere, TimeHere, services-here, time-here}
@@ -58,7 +58,7 @@ ends false = refl
 
 -- a packet that can be written, in which every language of a held list has its three bytes, as its type says
 module _ (w : CDPWriter) (rate : Framerate) (captions : List ℕ)
-    (right : verdict (Writing.packetChecks w rate (length captions)) ≡ clear)
+    (right : verdict (Writing.packetChecks rate (w .«time_code») (w .«service_info») (length captions)) ≡ clear)
     (languages : w .«service_info» .present ≡ true → allOfThree (counted (w .«service_info» .«service_info»)) ≡ true) where
   abbrev run : ℕ
   run = length captions
@@ -67,17 +67,17 @@ module _ (w : CDPWriter) (rate : Framerate) (captions : List ℕ)
   list = w .«service_info» .«service_info»
 
   abbrev p : List ℕ
-  p = packetBytes w rate captions
+  p = packetBytes rate (w .sequence) (w .«time_code») (w .«service_info») captions
 
   abbrev sum : ℕ
-  sum = negative (total (summedBytes w rate captions))
+  sum = negative (total (summedBytes rate (w .sequence) (w .«time_code») (w .«service_info») captions))
 
-  holds : Accepted w rate run
-  holds = accepted w rate run right
+  holds : Accepted rate (w .«time_code») (w .«service_info») run
+  holds = accepted rate (w .«time_code») (w .«service_info») run right
 
   -- the parts, and what stands from each of them on
   abbrev header : List ℕ
-  header = headerBytes (packetLength w run) rate (flagsOf w) (w .sequence)
+  header = headerBytes (packetLength (w .«time_code») (w .«service_info») run) rate (flagsOf (w .«time_code») (w .«service_info»)) (w .sequence)
 
   abbrev fourth : List ℕ
   fourth = footerBytes (w .sequence) ++ sum ∷ []
@@ -105,7 +105,7 @@ module _ (w : CDPWriter) (rate : Framerate) (captions : List ℕ)
   laid = six header (timeCodeBytes (w .«time_code»)) (ccDataBytes captions) (svcInfoBytes (w .«service_info»)) (footerBytes (w .sequence)) (sum ∷ [])
 
   long : length p ≡ footerFrom + 4
-  long = packet-length w rate captions
+  long = packet-length rate (w .sequence) (w .«time_code») (w .«service_info») captions
 
   at-time : drop 7 p ≡ first
   at-time = ap (drop 7) laid
@@ -120,20 +120,20 @@ module _ (w : CDPWriter) (rate : Framerate) (captions : List ℕ)
   at-footer = further-on p servicesFrom (svcInfoBytes (w .«service_info»)) fourth at-services (Writing.svcInfoSize (w .«service_info»)) (sym (services-length (w .«service_info»)))
 
   -- the header
-  flags : flagsIn p ≡ flagsOf w
-  flags = ap flagsIn laid ∙ flags-back (flagsOf w)
+  flags : flagsIn p ≡ flagsOf (w .«time_code») (w .«service_info»)
+  flags = ap flagsIn laid ∙ flags-back (flagsOf (w .«time_code») (w .«service_info»))
 
   sequence : sequenceIn p ≡ w .sequence
-  sequence = ap sequenceIn laid ∙ sequence-back (packetLength w run) rate (flagsOf w) (w .sequence) first
+  sequence = ap sequenceIn laid ∙ sequence-back (packetLength (w .«time_code») (w .«service_info») run) rate (flagsOf (w .«time_code») (w .«service_info»)) (w .sequence) first
 
   rated : rateOf p ≡ present rate
-  rated = ap rateOf laid ∙ rate-back (packetLength w run) rate (flagsOf w) (w .sequence) first (holds .rated)
+  rated = ap rateOf laid ∙ rate-back (packetLength (w .«time_code») (w .«service_info») run) rate (flagsOf (w .«time_code») (w .«service_info»)) (w .sequence) first (holds .rated)
 
   header-right : verdict (headerChecks p) ≡ clear
   header-right =
-      let size : length (header ++ first) ≡ packetLength w run = ap length (sym laid) ∙ packet-length w rate captions in
+      let size : length (header ++ first) ≡ packetLength (w .«time_code») (w .«service_info») run = ap length (sym laid) ∙ packet-length rate (w .sequence) (w .«time_code») (w .«service_info») captions in
       ap (λ (q : List ℕ). verdict (headerChecks q)) laid
-      ∙ header-clear (packetLength w run) rate (flagsOf w) (w .sequence) first (holds .rated) (omega (arith, size)) (sym size)
+      ∙ header-clear (packetLength (w .«time_code») (w .«service_info») run) rate (flagsOf (w .«time_code») (w .«service_info»)) (w .sequence) first (holds .rated) (omega (arith, size)) (sym size)
 
   -- the time code
   time : TimeHere p 7 (w .«time_code» .present) (w .«time_code» .«time_code»)
@@ -162,9 +162,9 @@ module _ (w : CDPWriter) (rate : Framerate) (captions : List ℕ)
   services-at : svcInfoAt p ≡ servicesFrom
   services-at = ap₂ (λ (i n : ℕ). i + n) captions-at captions-long
 
-  services : ServicesHere p servicesFrom (flagsOf w) (w .«service_info» .present) list
+  services : ServicesHere p servicesFrom (flagsOf (w .«time_code») (w .«service_info»)) (w .«service_info» .present) list
   services =
-      services-here p servicesFrom (flagsOf w) (w .«service_info» .present) list fourth (record { start = refl; change = refl; complete = refl }) at-services (holds .served) languages (omega (arith, long))
+      services-here p servicesFrom (flagsOf (w .«time_code») (w .«service_info»)) (w .«service_info» .present) list fourth (record { start = refl; change = refl; complete = refl }) at-services (holds .served) languages (omega (arith, long))
 
   services-right : verdict (when (flagsIn p .«svc_info») (svcInfoChecks p (flagsIn p) (svcInfoAt p))) ≡ named (fieldTwo (w .«service_info»))
   services-right = ap₂ (λ (f : Flags) (i : ℕ). verdict (when (f .«svc_info») (svcInfoChecks p f i))) flags services-at ∙ services .answered
@@ -180,7 +180,7 @@ module _ (w : CDPWriter) (rate : Framerate) (captions : List ℕ)
 
   sum-right : sum ≡ checksumOf p
   unfolding packetBytes
-  sum-right = sym (checksum-is (summedBytes w rate captions) sum)
+  sum-right = sym (checksum-is (summedBytes rate (w .sequence) (w .«time_code») (w .«service_info») captions) sum)
 
   footer-right : verdict (closingChecks p (sequenceIn p) (closingAt p)) ≡ clear
   footer-right =
@@ -214,10 +214,10 @@ module _ (w : CDPWriter) (rate : Framerate) (captions : List ℕ)
 
 -- what was written is what reading was said of
 module _ (w : CDPWriter) (rate : Framerate) (captions buffer : List ℕ) (done-so : eqb (packetWritten w rate captions buffer .answer .number) 0 ≡ true) where
-  written-is : writtenPacket w rate captions buffer ≡ packetBytes w rate captions
+  written-is : writtenPacket w rate captions buffer ≡ packetBytes rate (w .sequence) (w .«time_code») (w .«service_info») captions
   written-is =
-      ap (λ (r : Written). take (r .answer .first) (r .buffer)) (packet-done w rate captions buffer done-so .1)
-      ∙ first-bytes (packetBytes w rate captions) buffer
+      ap (λ (r : Written). take (r .answer .first) (r .buffer)) (packet-done rate (w .sequence) (w .«time_code») (w .«service_info») captions buffer done-so .1)
+      ∙ first-bytes (packetBytes rate (w .sequence) (w .«time_code») (w .«service_info») captions) buffer
 
   module _ (languages : w .«service_info» .present ≡ true → allOfThree (counted (w .«service_info» .«service_info»)) ≡ true)
       (s : CDPParser) (lent : List ℕ) (room : 95 ≤ length lent) where
@@ -229,10 +229,10 @@ module _ (w : CDPWriter) (rate : Framerate) (captions buffer : List ℕ) (done-s
           answer = answer (named (fieldTwo (w .«service_info»))) (2 + length captions);
           parser = ifClear (named (fieldTwo (w .«service_info»))) (shownBack w rate) (cleared s);
         }
-    reads = rw written-is (got w rate captions (packet-done w rate captions buffer done-so .0) languages s lent room)
+    reads = rw written-is (got w rate captions (packet-done rate (w .sequence) (w .«time_code») (w .«service_info») captions buffer done-so .0) languages s lent room)
 
     leaves : bufferAfter packet lent ≡ ifClear (named (fieldTwo (w .«service_info»))) (over 0 (captionsBack captions) lent) lent
-    leaves = rw written-is (after w rate captions (packet-done w rate captions buffer done-so .0) languages s lent room)
+    leaves = rw written-is (after w rate captions (packet-done rate (w .sequence) (w .«time_code») (w .«service_info») captions buffer done-so .0) languages s lent room)
 
     -- Writing was answered 0, and no counted entry of a held list names field 2: reading what was written, on any state and
     -- with any caption buffer of at least 95 bytes, answers 0 and gives the values back.

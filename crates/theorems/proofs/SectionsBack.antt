@@ -25,7 +25,7 @@ use Rattle.services.specs.Writing.{counted, sectionByte, sectionBytes}
 use Rattle.sections.specs.CcData.{ccCount, ccDataChecks, ccDataSize, handedOut}
 use Rattle.sections.specs.TimeCode.{timeCodeChecks, timeCodeIn}
 use Rattle.svc_section.specs.SvcInfo.{sameFlags, svcInfoBytes, svcInfoChecks, svcInfoSize}
-use Rattle.writer.specs.Writing.{ccDataBytes}
+use Rattle.packing.specs.Writing.{ccDataBytes}
 use Rattle.theorems.proofs.Places.{byte-on, further-on, part-on}
 use Rattle.theorems.specs.RoundTrip.{captionsBack, listBack}
 use Rattle.services.specs.declared.list.ServiceInfo.{ServiceInfo}

@@ -15,7 +15,6 @@ use Rattle.services.specs.ServiceList.{empty, list, listAbsent}
 use Rattle.reader.specs.Packet.{fresh, state}
 use Rattle.reader.specs.Reader.{captionRoom, read}
 use Rattle.writer.specs.Writer as Writer
-use Rattle.writer.specs.Writing.{packetWritten}
 use Rattle.entries.specs.declared.service.FieldOrService.the-variants.{Field}
 use Rattle.reader.specs.declared.parser.CDPParser.{CDPParser}
 use Rattle.reader.specs.declared.parser.CDPParserRead.{CDPParserRead}
@@ -79,4 +78,4 @@ pub record Cases : Type 0 where
   pub p11 : sectionRead (0x73 ∷ 0x81 ∷ []) ≡ record { answer = numbers 1 9 2; list = empty }
   -- a new writer, 25/1, no captions, any buffer with room
   pub p12 : (buffer : List ℕ) → 13 ≤ length buffer
-      → packetWritten Writer.fresh (row 3 25 1) [] buffer ≡ record { answer = numbers 0 13 0; buffer = over 0 thirteen buffer }
+      → Writer.packetWritten Writer.fresh (row 3 25 1) [] buffer ≡ record { answer = numbers 0 13 0; buffer = over 0 thirteen buffer }

@@ -12,8 +12,7 @@ use Rattle.svc_entries.specs.Entries.{filled}
 use Rattle.services.specs.ServiceList.{list, listAbsent, listPresent}
 use Rattle.services.specs.Writing.{counted}
 use Rattle.reader.specs.Packet.{state}
-use Rattle.writer.specs.Writer.{heldTime}
-use Rattle.writer.specs.Writing.{packetWritten}
+use Rattle.writer.specs.Writer.{heldTime, packetWritten}
 use Rattle.reader.specs.declared.parser.CDPParser.{CDPParser}
 use Rattle.reader.specs.declared.parser.CDPParserRead.{CDPParserRead}
 use Rattle.services.specs.declared.list.MaybeServiceInfo.{MaybeServiceInfo}

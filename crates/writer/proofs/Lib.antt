@@ -1,4 +1,1 @@
 pub mod Setters
-pub mod Checks
-pub mod Parts
-pub mod PacketWrites

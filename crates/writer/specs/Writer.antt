@@ -1,13 +1,16 @@
--- The writer: what it holds, and the calls that set it.
+-- The writer: what it holds, the calls that set it, and the packet that it writes.
 use mathlib.Core.Bool.{cond}
 use mathlib.Core.List.{List, [], _∷_}
 use Prim.Native.Nat.{ℕ}
 use Rattle.basis.specs.Check.{Check, when, verdict, answer, ifClear}
+use Rattle.entries.specs.Writing.{Written}
+use Rattle.packing.specs.Writing as Writing
 use Rattle.times.specs.Time.{timeAbsent}
 use Rattle.services.specs.ServiceList.{countCheck, listAbsent}
 use Rattle.services.specs.declared.list.MaybeServiceInfo.{MaybeServiceInfo}
 use Rattle.basis.specs.declared.answer.Answer.{Answer}
 use Rattle.times.specs.declared.time_code.MaybeTimeCode.{MaybeTimeCode}
+use Rattle.values.specs.declared.framerate.Framerate.{Framerate}
 use Rattle.writer.specs.declared.writer.CDPWriter.{CDPWriter}
 use Rattle.writer.specs.declared.writer.CDPWriterSet.{CDPWriterSet}
 
@@ -49,3 +52,8 @@ setSequenceCount w sequence = writer (w .«time_code») (w .«service_info») se
 -- a flush makes the writer new
 abbrev pub flushed : CDPWriter → CDPWriter
 flushed w = fresh
+
+-- a packet of all that is held
+abbrev pub packetWritten : CDPWriter → Framerate → List ℕ → List ℕ → Written
+packetWritten w rate captions buffer =
+    Writing.packetWritten rate (w .sequence) (w .«time_code») (w .«service_info») captions buffer

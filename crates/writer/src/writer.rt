@@ -1,10 +1,12 @@
-// The writer's values, and the calls that set them.
+// The writer's values, the calls that set them, and the one that writes them.
 ghost use mathlib.Core.Path.{_≡_};
 ghost use Rattle.writer.specs.Writer as Writer;
 use basis::Answer;
+use packing::write_packet;
 use services::MaybeServiceInfo;
 use services::ServiceInfo;
 use times::MaybeTimeCode;
+use values::Framerate;
 
 // What goes into the next packets, until it is set anew: writing changes none of it.
 pub struct CDPWriter {
@@ -89,6 +91,21 @@ impl CDPWriter {
         ensures { λ r. ⌜ r ≡ Writer.flushed self ⌝ }
     {
         Self::new()
+    }
+
+    // Writes a packet of what is held at the start of the lent bytes.
+    pub fn write(self, framerate: Framerate, captions: &[u8], out: &mut [u8]) -> Answer
+        ensures { λ r. ⌜ r ≡ Writer.packetWritten self framerate (now (captions .entry)) (now (out .entry)) .answer ⌝ }
+        ensures { λ r. ⌜ now (out .exit) ≡ Writer.packetWritten self framerate (now (captions .entry)) (now (out .entry)) .buffer ⌝ }
+    {
+        write_packet(
+            framerate,
+            self.sequence,
+            self.time_code,
+            self.service_info,
+            captions,
+            out,
+        )
     }
 }
 

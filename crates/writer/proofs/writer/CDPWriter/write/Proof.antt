@@ -1,76 +1,17 @@
--- `writer::CDPWriter::write`: the checks of the values, room, then the packet.
+-- `writer::CDPWriter::write`: a packet of all that is held.
 -- Assumes nothing.
-use mathlib.Core.Path.{_∙_, ap, sym}
-use lib.ListN.{length}
-use Rattle.basis.specs.declared.answer.Answer.{Answer}
-use borrow.Author.Tests.{not-true, not-false}
-use Rattle.writer.proofs.Checks.{packet-asked}
-use Rattle.writer.proofs.PacketWrites.{packet-fits, packet-no-room, packet-refused}
 use borrow.Author.Needs.{needs}
 use Rattle.writer.proofs.writer.CDPWriter.write.Statement.{statement}
 use Rattle.writer.proofs.writer.CDPWriter.write.Tie as tie
 
-writable-requires : tie.Need-writable-requires
-writable-requires c κs = search needs
-
-is-done-requires : tie.Need-is-done-requires
-is-done-requires c κs = search needs
-
-returns : tie.Need-returns
-returns c =
-    let s = c .before .before .before .before .before in
-    let w = s .args .self in
-    let rate = s .args .framerate in
-    let captions = s .args .captions .now in
-    let buffer = s .args .out .now in
-    let e = c .before .before .writable .ensures in
-    rw e (packet-refused w rate captions buffer (rw e at (sym (c .before .is-done .ensures) ∙ not-true _ (c .if1 .taken))))
-
-buffer-too-short-requires : tie.Need-buffer-too-short-requires
-buffer-too-short-requires c κs = search needs
-
-returns-2 : tie.Need-returns-2
-returns-2 c =
-    let s = c .before .before .before .before .before .before .before in
-    let w = s .args .self in
-    let rate = s .args .framerate in
-    let captions = s .args .captions .now in
-    let buffer = s .args .out .now in
-    let d = packet-asked w rate (length captions) _ (c .before .before .before .before .writable .ensures) (sym (c .before .before .before .is-done .ensures) ∙ not-false _ (c .before .before .if1 .left)) in
-    rw (c .buffer-too-short .ensures, d .1) (packet-no-room w rate captions buffer (d .0) (rw (d .1) at (c .before .if2 .taken)))
-
-put-packet-requires : tie.Need-put-packet-requires
-put-packet-requires c κs =
-    let s = c .before .before .before .before .before .before .before in
-    let w = s .args .self in
-    let rate = s .args .framerate in
-    let captions = s .args .captions .now in
-    let buffer = s .args .out .now in
-    let d = packet-asked w rate (length captions) _ (c .before .before .before .before .writable .ensures) (sym (c .before .before .before .is-done .ensures) ∙ not-false _ (c .before .before .if1 .left)) in
-    (d .0, (ap (λ (a : Answer). a .first) (d .1), c .before .if2 .left))
+write-packet-requires : tie.Need-write-packet-requires
+write-packet-requires c κs = search needs
 
 same-length : tie.Need-same-length
 same-length c = search needs
 
-returns-3 : tie.Need-returns-3
-returns-3 c =
-    let s = c .before .before .before .before .before .before .before .before .before .before in
-    let w = s .args .self in
-    let rate = s .args .framerate in
-    let captions = s .args .captions .now in
-    let buffer = s .args .out .now in
-    let d = packet-asked w rate (length captions) _ (c .before .before .before .before .before .before .before .writable .ensures) (sym (c .before .before .before .before .before .before .is-done .ensures) ∙ not-false _ (c .before .before .before .before .before .if1 .left)) in
-    rw (d .1, c .before .before .put-packet .ensures) (packet-fits w rate captions buffer (d .0) (rw (d .1) at (c .before .before .before .before .if2 .left)))
+returns : tie.Need-returns
+returns c = c .before .before .write-packet .ensures
 
 pub write-spec : {M : Type 1} → statement M
-write-spec =
-    tie.close
-    (tie.spec
-    writable-requires
-    is-done-requires
-    returns
-    buffer-too-short-requires
-    returns-2
-    put-packet-requires
-    same-length
-    returns-3)
+write-spec = tie.close (tie.spec write-packet-requires same-length returns)

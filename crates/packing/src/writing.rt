@@ -1,0 +1,233 @@
+// Writing a packet: the checks in their order, then the parts, one behind the other.
+ghost use mathlib.Core.Path.{_≡_};
+ghost use mathlib.Core.List.{_++_, _∷_, []};
+ghost use Prim.Native.Nat.{_+_, _≤_};
+ghost use lib.ListN.{length, take};
+ghost use Rattle.basis.specs.Bytes as Bytes;
+ghost use Rattle.basis.specs.Check.{verdict, answer, clear};
+ghost use Rattle.values.specs.Checksum.{total, negative};
+ghost use Rattle.packing.specs.Writing as Writing;
+use basis::Answer;
+use basis::put;
+use services::MaybeServiceInfo;
+use times::MaybeTimeCode;
+use values::Flags;
+use values::Framerate;
+use values::Packet;
+use values::checksum_byte;
+use values::sequence_bytes;
+
+// The most captions that a packet can have: 31 triplets.
+const CAPTION_RUN: usize = 93;
+
+// Writes a packet at the start of the lent bytes.
+pub fn write_packet(
+    framerate: Framerate,
+    sequence: u16,
+    time_code: MaybeTimeCode,
+    service_info: MaybeServiceInfo,
+    captions: &[u8],
+    out: &mut [u8],
+) -> Answer
+    ensures { λ r. ⌜ r ≡ Writing.packetWritten framerate sequence «time_code» «service_info» (now (captions .entry)) (now (out .entry)) .answer ⌝ }
+    ensures { λ r. ⌜ now (out .exit) ≡ Writing.packetWritten framerate sequence «time_code» «service_info» (now (captions .entry)) (now (out .entry)) .buffer ⌝ }
+{
+    let checked = writable(framerate, time_code, service_info, captions.len());
+    if !checked.is_done() {
+        return checked;
+    }
+    let needed = checked.first;
+    let room = out.len();
+    if room < needed {
+        return Answer::buffer_too_short(needed, room);
+    }
+    put_packet(
+        framerate,
+        sequence,
+        time_code,
+        service_info,
+        captions,
+        needed,
+        out,
+    );
+    checked
+}
+
+// Whether a packet can be written, and how long it is.
+fn writable(
+    framerate: Framerate,
+    time_code: MaybeTimeCode,
+    service_info: MaybeServiceInfo,
+    run: usize,
+) -> Answer
+    ensures { λ r. ⌜ r ≡ answer (verdict (Writing.packetChecks framerate «time_code» «service_info» run)) (Writing.packetLength «time_code» «service_info» run) ⌝ }
+{
+    if !framerate.is_known() {
+        return Answer::UNKNOWN_FRAMERATE;
+    }
+    if CAPTION_RUN < run {
+        return Answer::WRONG_CAPTION_RUN;
+    }
+    if run % 3 != 0 {
+        return Answer::WRONG_CAPTION_RUN;
+    }
+    let timed = time_code_size(time_code);
+    if !timed.is_done() {
+        return timed;
+    }
+    let served = svc_info_size(service_info);
+    if !served.is_done() {
+        return served;
+    }
+    Answer::done(7 + timed.first + (2 + run) + served.first + 4)
+}
+
+// What the packet has: captions always, the others where they are held.
+fn flags(time_code: MaybeTimeCode, service_info: MaybeServiceInfo) -> Flags
+    ensures { λ r. ⌜ r ≡ Writing.flagsOf «time_code» «service_info» ⌝ }
+{
+    if !service_info.present {
+        return Flags {
+            time_code: time_code.present,
+            cc_data: true,
+            svc_info: false,
+            svc_info_start: false,
+            svc_info_change: false,
+            svc_info_complete: false,
+        };
+    }
+    Flags {
+        time_code: time_code.present,
+        cc_data: true,
+        svc_info: true,
+        svc_info_start: service_info.service_info.start,
+        svc_info_change: service_info.service_info.change,
+        svc_info_complete: service_info.service_info.complete,
+    }
+}
+
+// Each part begins where the one before it ends.
+fn put_packet(
+    framerate: Framerate,
+    sequence: u16,
+    time_code: MaybeTimeCode,
+    service_info: MaybeServiceInfo,
+    captions: &[u8],
+    size: usize,
+    out: &mut [u8],
+)
+    requires { ⌜ verdict (Writing.packetChecks framerate «time_code» «service_info» (length (now captions))) ≡ clear ⌝ }
+    requires { ⌜ size ≡ Writing.packetLength «time_code» «service_info» (length (now captions)) ⌝ }
+    requires { ⌜ size ≤ length (now out) ⌝ }
+    ensures { λ _. ⌜ now (out .exit) ≡ Bytes.over 0 (Writing.packetBytes framerate sequence «time_code» «service_info» (now (captions .entry))) (now (out .entry)) ⌝ }
+{
+    let header = header_bytes(size, framerate, flags(time_code, service_info), sequence);
+    put(out, 0, &header);
+    let cc_data_at = put_time_code(time_code, 7, out);
+    let svc_info_at = put_cc_data(captions, cc_data_at, out);
+    let footer_at = put_svc_info(service_info, svc_info_at, out);
+    put_footer(sequence, footer_at, out);
+}
+
+fn header_bytes(size: usize, framerate: Framerate, flags: Flags, sequence: u16) -> [u8; 7]
+    requires { ⌜ size ≤ 218 ⌝ }
+    requires { ⌜ framerate .id ≤ 8 ⌝ }
+    ensures { λ r. ⌜ r ≡ Writing.headerBytes size framerate flags sequence ⌝ }
+{
+    let count = sequence_bytes(sequence);
+    [
+        0x96,
+        0x69,
+        size as u8,
+        framerate.id * 16 + 0x0F,
+        flags.to_byte(),
+        count[0],
+        count[1],
+    ]
+}
+
+fn put_time_code(time_code: MaybeTimeCode, at: usize, out: &mut [u8]) -> usize
+    requires { ⌜ verdict (Writing.timeCodeChecks «time_code») ≡ clear ⌝ }
+    requires { ⌜ at + Writing.timeCodeSize «time_code» ≤ length (now out) ⌝ }
+    ensures { λ r. ⌜ r ≡ at + Writing.timeCodeSize «time_code» ⌝ }
+    ensures { λ _. ⌜ now (out .exit) ≡ Bytes.over at (Writing.timeCodeBytes «time_code») (now (out .entry)) ⌝ }
+{
+    if !time_code.present {
+        return at;
+    }
+    let written = time_code.time_code.to_bytes();
+    let bytes = written.bytes;
+    let id = [Packet::TIME_CODE_ID];
+    put(out, at, &id);
+    put(out, at + 1, &bytes);
+    at + 5
+}
+
+// The captions go in as they are.
+fn put_cc_data(captions: &[u8], at: usize, out: &mut [u8]) -> usize
+    requires { ⌜ length (now captions) ≤ 93 ⌝ }
+    requires { ⌜ at + (2 + length (now captions)) ≤ length (now out) ⌝ }
+    ensures { λ r. ⌜ r ≡ at + (2 + length (now (captions .entry))) ⌝ }
+    ensures { λ _. ⌜ now (out .exit) ≡ Bytes.over at (Writing.ccDataBytes (now (captions .entry))) (now (out .entry)) ⌝ }
+{
+    let run = captions.len();
+    let head = [Packet::CC_DATA_ID, 0xE0 + (run / 3) as u8];
+    put(out, at, &head);
+    put(out, at + 2, captions);
+    at + (2 + run)
+}
+
+fn put_svc_info(service_info: MaybeServiceInfo, at: usize, out: &mut [u8]) -> usize
+    requires { ⌜ verdict (Writing.svcInfoChecks «service_info») ≡ clear ⌝ }
+    requires { ⌜ at + Writing.svcInfoSize «service_info» ≤ length (now out) ⌝ }
+    ensures { λ r. ⌜ r ≡ at + Writing.svcInfoSize «service_info» ⌝ }
+    ensures { λ _. ⌜ now (out .exit) ≡ Bytes.over at (Writing.svcInfoBytes «service_info») (now (out .entry)) ⌝ }
+{
+    if !service_info.present {
+        return at;
+    }
+    let written = service_info.service_info.write_into(&mut out[at..]);
+    at + written.first
+}
+
+// The checksum is of all that stands before it.
+fn put_footer(sequence: u16, at: usize, out: &mut [u8])
+    requires { ⌜ at + 4 ≤ length (now out) ⌝ }
+    ensures { λ _. ⌜ now (out .exit) ≡ Bytes.over at (Writing.footerBytes sequence ++ negative (total (take at (now (out .entry)) ++ Writing.footerBytes sequence)) ∷ []) (now (out .entry)) ⌝ }
+{
+    let count = sequence_bytes(sequence);
+    let footer = [Packet::CDP_FOOTER_ID, count[0], count[1]];
+    put(out, at, &footer);
+    let end = at + 3;
+    let sum = [checksum_byte(&out[..end])];
+    put(out, end, &sum);
+}
+
+// The time code's size, or 12 where it cannot be written.
+fn time_code_size(time_code: MaybeTimeCode) -> Answer
+    ensures { λ r. ⌜ r ≡ answer (verdict (Writing.timeCodeChecks «time_code»)) (Writing.timeCodeSize «time_code») ⌝ }
+{
+    if !time_code.present {
+        return Answer::done(0);
+    }
+    let written = time_code.time_code.to_bytes();
+    let checked = written.answer;
+    if !checked.is_done() {
+        return checked;
+    }
+    Answer::done(5)
+}
+
+// The section's size, or 10 or 12 where the list cannot be written.
+fn svc_info_size(service_info: MaybeServiceInfo) -> Answer
+    ensures { λ r. ⌜ r ≡ answer (verdict (Writing.svcInfoChecks «service_info»)) (Writing.svcInfoSize «service_info») ⌝ }
+{
+    if !service_info.present {
+        return Answer::done(0);
+    }
+    let checked = service_info.service_info.writable();
+    if !checked.is_done() {
+        return checked;
+    }
+    service_info.service_info.byte_len()
+}
