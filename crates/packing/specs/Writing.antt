@@ -12,7 +12,7 @@ use Rattle.values.specs.Flags.{flagByte}
 use Rattle.values.specs.Packet.{timeCodeId, captionsId, footerId}
 use Rattle.values.specs.Rate.{known}
 use Rattle.values.specs.Sequence.{sequenceBytes}
-use Rattle.times.specs.Time.{timeWriteChecks, timeBytes}
+use Rattle.times.specs.Time.{timeBytes, timeSize, timeWriteChecks}
 use Rattle.entries.specs.Writing.{Written, roomCheck}
 use Rattle.svc_entries.specs.Entries.{sectionLength}
 use Rattle.services.specs.Writing as Section
@@ -42,7 +42,7 @@ packetChecks rate time services run =
 
 -- the sizes of the parts: header, time code, captions, services, footer
 abbrev pub timeCodeSize : MaybeTimeCode → ℕ
-timeCodeSize time = sizeWhen (time .present) 5
+timeCodeSize time = sizeWhen (time .present) timeSize
 
 abbrev pub svcInfoSize : MaybeServiceInfo → ℕ
 svcInfoSize services = sizeWhen (services .present) (sectionLength (services .«service_info» .count))
