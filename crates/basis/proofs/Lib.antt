@@ -2,3 +2,4 @@ pub mod Bools
 pub mod Masks
 pub mod Puts
 pub mod Verdicts
+pub mod Places

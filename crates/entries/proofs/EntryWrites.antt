@@ -1,4 +1,4 @@
--- Writing an entry, test by test: what is left where a test is the first that fails, and where none does.
+-- What a writer that tests the room last leaves, test by test; and so an entry's.
 -- Assumes nothing.
 use mathlib.Core.Path.{_≡_, _∙_, sym, refl}
 use mathlib.Core.Bool.{true, false, true≢false, false≢true}
@@ -12,29 +12,13 @@ use Rattle.basis.proofs.Verdicts.{andThen, refused-not-done, verdict-append}
 use Rattle.basis.specs.Answer.{BufferTooShort, NotWritable, done, refused}
 use Rattle.basis.specs.Bytes.{over, put}
 use Rattle.basis.specs.Check.{Check, Verdict, answer, broken, clear, verdict}
-use Rattle.entries.specs.Writing.{Written, writable, entryBytes, entryWritten, roomCheck, written}
+use Rattle.entries.specs.Writing.{Written, writable, entryBytes, entryCheck, entryWritten, roomCheck, written}
 use Rattle.entries.specs.declared.entry.ServiceEntry.{ServiceEntry}
 use Rattle.basis.specs.declared.answer.Answer.{Answer}
 
 -- what a writer leaves: this answer, and this buffer
 abbrev pub Leaves : Written → Answer → List ℕ → Type 0
 Leaves w answer buffer = (answer ≡ w .answer) × (buffer ≡ w .buffer)
-
--- an entry alone
-module _ (e : ServiceEntry) (buffer : List ℕ) where
-  pub entry-unwritable : writable (e .service) ≡ false → Leaves (entryWritten e buffer) (refused NotWritable) buffer
-  unfolding entryWritten
-  entry-unwritable w = (simp w, simp w)
-
-  pub entry-no-room : writable (e .service) ≡ true → length buffer < 6
-      → Leaves (entryWritten e buffer) (refused (BufferTooShort 6 (length buffer))) buffer
-  unfolding entryWritten
-  entry-no-room w h = (simp (w, lt-leb _ _ h), simp (w, lt-leb _ _ h))
-
-  pub entry-fits : writable (e .service) ≡ true → 6 ≤ length buffer
-      → Leaves (entryWritten e buffer) (done 6) (put 0 (entryBytes e) buffer)
-  unfolding entryWritten
-  entry-fits w h = (simp (w, le-leb _ _ h), put-fits 0 (entryBytes e) buffer h ∙ simp (w, le-leb _ _ h))
 
 -- where a writer answers 0, both of its verdicts are clear, and the bytes stand at the start of the buffer
 done-means : (v w : Verdict) (bytes buffer : List ℕ) → eqb (written (andThen v w) bytes buffer .answer .number) 0 ≡ true
@@ -73,6 +57,24 @@ module _ (cs : List Check) (needed : ℕ) (bytes buffer : List ℕ) where
 
   pub room-done : eqb (roomLast .answer .number) 0 ≡ true → (verdict cs ≡ clear) × (roomLast ≡ written clear bytes buffer)
   room-done h = rw in-order (done-means (verdict cs) room bytes buffer (rw in-order at h))
+
+-- an entry alone
+module _ (e : ServiceEntry) (buffer : List ℕ) where
+  pub entry-unwritable : writable (e .service) ≡ false → Leaves (entryWritten e buffer) (refused NotWritable) buffer
+  unfolding entryWritten
+  entry-unwritable w = (simp w, simp w)
+
+  pub entry-no-room : writable (e .service) ≡ true → length buffer < 6
+      → Leaves (entryWritten e buffer) (refused (BufferTooShort 6 (length buffer))) buffer
+  unfolding entryWritten
+  entry-no-room w h = no-room (entryCheck e ∷ []) 6 (entryBytes e) buffer (simp w) h
+
+  pub entry-fits : writable (e .service) ≡ true → 6 ≤ length buffer
+      → Leaves (entryWritten e buffer) (done 6) (put 0 (entryBytes e) buffer)
+  unfolding entryWritten
+  entry-fits w h =
+      let all : Leaves (entryWritten e buffer) (done 6) (over 0 (entryBytes e) buffer) = all-fits (entryCheck e ∷ []) 6 (entryBytes e) buffer (simp w) refl h in
+      (all .0, put-fits 0 (entryBytes e) buffer h ∙ all .1)
 
 -- as many first bytes as a writer answers with 0 are the bytes that it wrote
 pub first-bytes : (bytes buffer : List ℕ)

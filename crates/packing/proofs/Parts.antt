@@ -79,7 +79,7 @@ module _ (at : ℕ) (buffer : List ℕ) where
     captions-put = put-put at (captionsId ∷ (0xE0 + length captions / 3) ∷ []) captions buffer (omega arith)
 
   -- what stands from the place on, as the code lends it
-  abbrev pub rest : List ℕ
+  abbrev rest : List ℕ
   rest = take (length buffer - at) (drop at buffer)
 
   module _ (services : MaybeServiceInfo) (held : services .present ≡ true) (right : verdict (svcInfoChecks services) ≡ clear)
@@ -100,7 +100,7 @@ module _ (at : ℕ) (buffer : List ℕ) where
     abbrev footer : List ℕ
     footer = footerBytes sequence
 
-    pub before-checksum : take (at + 3) (put at footer buffer) ≡ take at buffer ++ footer
+    before-checksum : take (at + 3) (put at footer buffer) ≡ take at buffer ++ footer
     before-checksum = take-put at footer buffer (omega arith)
 
     pub footer-put : (sum : ℕ) → sum ≡ negative (total (take (at + 3) (put at footer buffer)))

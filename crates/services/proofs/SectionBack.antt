@@ -8,9 +8,9 @@ use native.Mathlib.Nat.{add-zero}
 use native.Mathlib.Omega.{arith}
 use lib.Dec.{eqb}
 use lib.ListN.{length, take, drop}
-use lib.Seq.{getD-drop, drop-drop}
 use borrow.Author.Tests.{eq-eqb, ne-eqb, le-leb, eqb-true}
 use Rattle.basis.proofs.Bools.{and-left, and-right}
+use Rattle.basis.proofs.Places.{byte-on, further-on}
 use Rattle.basis.proofs.Verdicts.{andThen, verdict-append}
 use Rattle.basis.specs.Answer.{ServiceNumberMismatch, done, refused}
 use Rattle.basis.specs.Bytes.{byte}
@@ -81,17 +81,17 @@ place-verdict d at two h80 h40 kept same = simp (h80, h40) (last (entryChecks (s
 
 -- what stands from a place on: its bytes are those of the whole, and what follows is what stands further on
 module _ (d : List ℕ) (at : ℕ) (e : ServiceEntry) (rest : List ℕ) (h : drop at d ≡ sevenBytes e ++ rest) where
-  byte-on : (j : ℕ) → byte d (at + j) ≡ byte (sevenBytes e ++ rest) j
-  byte-on j = sym (getD-drop at d j 0) ∙ rw h
+  on : (j : ℕ) → byte d (at + j) ≡ byte (sevenBytes e ++ rest) j
+  on = byte-on d at (sevenBytes e ++ rest) h
 
   header-on : byte d at ≡ headerByte (e .service)
-  header-on = rw add-zero at (byte-on 0)
+  header-on = rw add-zero at (on 0)
 
   six-on : sixBehind d at ≡ entryBytes e
-  six-on = simp (byte-on 1, byte-on 2, byte-on 3, byte-on 4, byte-on 5, byte-on 6)
+  six-on = simp (on 1, on 2, on 3, on 4, on 5, on 6)
 
   rest-on : drop (at + 7) d ≡ rest
-  rest-on = sym (drop-drop 7 at d) ∙ rw h
+  rest-on = further-on d at (sevenBytes e) rest h 7 refl
 
   -- reading there: 7 for field 2, else clear
   place-back : writable (e .service) ≡ true → verdict (checksAt d at) ≡ named (isFieldTwo (e .service))

@@ -1,9 +1,9 @@
 // The list: three flags, fifteen places and a count.
 ghost use mathlib.Core.Path.{_≡_};
-ghost use Rattle.svc_entries.specs.Entries as Entries;
 ghost use Rattle.services.specs.ServiceList as List;
 use basis::Answer;
 use entries::ServiceEntry;
+use svc_entries::fillers;
 
 pub struct ServiceInfo {
     pub start: bool,
@@ -45,7 +45,7 @@ impl ServiceInfo {
     pub fn default() -> Self
         ensures { λ r. ⌜ r ≡ List.empty ⌝ }
     {
-        let services = Self::fillers();
+        let services = fillers();
         Self {
             start: false,
             change: false,
@@ -53,13 +53,6 @@ impl ServiceInfo {
             services,
             count: 0,
         }
-    }
-
-    // The filler in all places.
-    pub fn fillers() -> [ServiceEntry; 15]
-        ensures { λ r. ⌜ r ≡ Entries.fillers ⌝ }
-    {
-        svc_entries::fillers()
     }
 
     pub fn set_start(mut self, start: bool) -> Self
@@ -91,7 +84,7 @@ impl ServiceInfo {
     pub fn clear_services(self) -> Self
         ensures { λ r. ⌜ r ≡ List.clear self ⌝ }
     {
-        let services = Self::fillers();
+        let services = fillers();
         Self {
             start: self.start,
             change: self.change,

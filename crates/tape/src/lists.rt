@@ -8,6 +8,7 @@ use services::DigitalServiceEntry;
 use services::FieldOrService;
 use services::ServiceEntry;
 use services::ServiceInfo;
+use svc_entries::fillers;
 
 pub struct EntryWord {
     pub entry: ServiceEntry,
@@ -59,7 +60,7 @@ pub fn list(line: &[u8], at: usize) -> ListWord {
     let start = flag(line, at);
     let change = flag(line, mark(line, start.next, b','));
     let complete = flag(line, mark(line, change.next, b','));
-    let services = ServiceInfo::fillers();
+    let services = fillers();
     let flags = ServiceInfo {
         start: start.on,
         change: change.on,

@@ -16,7 +16,7 @@ use Rattle.values.specs.Packet.{footerId}
 use Rattle.footer.proofs.ClosingReads.{begins, footer-reached, footer-whole}
 use Rattle.footer.specs.Footer.{checksumOf, closingChecks, closingRead}
 use Rattle.packing.specs.Writing.{footerBytes}
-use Rattle.theorems.proofs.Places.{byte-on}
+use Rattle.basis.proofs.Places.{byte-on}
 use Rattle.basis.specs.declared.answer.Answer.{Answer}
 
 -- all bytes but the last are those that were summed up

@@ -1,4 +1,3 @@
-pub mod Places
 pub mod HeaderBack
 pub mod SectionsBack
 pub mod FooterBack

@@ -1,6 +1,6 @@
 -- Demand 2's round trip: reading what was written gives the values back, or is answered 7 where field 2 is named.
 -- Assumes nothing.
-use mathlib.Core.Bool.{Bool, true, false, cond}
+use mathlib.Core.Bool.{true, false, cond}
 use mathlib.Core.List.{List, [], _∷_, _++_, append-assoc}
 use mathlib.Core.Path.{_≡_, _∙_, sym, refl, ap, ap₂}
 use Prim.Native.Nat.{ℕ, _+_, _≤_}
@@ -13,7 +13,6 @@ use Rattle.basis.specs.Bytes.{over}
 use Rattle.basis.specs.Check.{answer, clear, ifClear, sizeWhen, verdict, when}
 use Rattle.values.specs.Checksum.{negative, total}
 use Rattle.values.specs.Rate.{present}
-use Rattle.basis.proofs.Verdicts.{andThen}
 use Rattle.entries.proofs.EntryWrites.{first-bytes}
 use Rattle.entries.specs.Writing.{Written}
 use Rattle.services.proofs.SectionBack.{named}
@@ -36,8 +35,8 @@ use Rattle.packing.specs.Writing.{ccDataBytes, flagsOf, footerBytes, headerByte
 use Rattle.theorems.proofs.FooterBack.{checksum-is, closing-clear}
 use Rattle.theorems.proofs.HeaderBack.{flags-back, header-clear, rate-back, sequence-back}
 use Rattle.theorems.proofs.PartsBack.{ServicesHere, TimeHere, services-here, time-here}
-use Rattle.theorems.proofs.Places.{further-on}
-use Rattle.theorems.proofs.SectionsBack.{captions-clear, captions-value, size-is}
+use Rattle.basis.proofs.Places.{further-on}
+use Rattle.theorems.proofs.SectionsBack.{captions-clear, captions-value, ends, size-is}
 use Rattle.theorems.specs.RoundTrip.{ReadBack, captionsBack, fieldTwo, servicesBack, shownBack, writtenPacket}
 use Rattle.reader.specs.declared.parser.CDPParser.{CDPParser}
 use Rattle.services.specs.declared.list.ServiceInfo.{ServiceInfo}
@@ -51,10 +50,6 @@ six a b c d e f =
     ∙ append-assoc (a ++ b ++ c) d (e ++ f)
     ∙ append-assoc (a ++ b) c (d ++ (e ++ f))
     ∙ append-assoc a b (c ++ (d ++ (e ++ f)))
-
-ends : (two : Bool) → andThen (named two) clear ≡ named two
-ends true = refl
-ends false = refl
 
 -- a packet that can be written, in which every language of a held list has its three bytes, as its type says
 module _ (w : CDPWriter) (rate : Framerate) (captions : List ℕ)

@@ -26,7 +26,7 @@ use Rattle.sections.specs.CcData.{ccCount, ccDataChecks, ccDataSize, handedOut}
 use Rattle.sections.specs.TimeCode.{timeCodeChecks, timeCodeIn}
 use Rattle.svc_section.specs.SvcInfo.{sameFlags, svcInfoBytes, svcInfoChecks, svcInfoSize}
 use Rattle.packing.specs.Writing.{ccDataBytes}
-use Rattle.theorems.proofs.Places.{byte-on, further-on, part-on}
+use Rattle.basis.proofs.Places.{byte-on, further-on, part-on}
 use Rattle.theorems.specs.RoundTrip.{captionsBack, listBack}
 use Rattle.services.specs.declared.list.ServiceInfo.{ServiceInfo}
 use Rattle.values.specs.declared.flags.Flags.{Flags}
@@ -112,6 +112,10 @@ module _ (p : List ℕ) (i : ℕ) (captions : List ℕ) (rest : List ℕ) (h : d
       ap₂ (λ (n : ℕ) (xs : List ℕ). (0xC0 + n) ∷ 0xFF ∷ xs) count-is (part-on p (i + 2) captions rest behind (3 * ccCount p i) long)
 
 -- services: the section that was written, its list, and flags that agree with the header's
+pub ends : (two : Bool) → andThen (named two) clear ≡ named two
+ends true = refl
+ends false = refl
+
 beq-same : (b : Bool) → Bool·beq b b ≡ true
 beq-same true = refl
 beq-same false = refl
@@ -142,10 +146,6 @@ module _ (p : List ℕ) (i : ℕ) (l : ServiceInfo) (rest : List ℕ) (h : drop 
 
     abbrev flagsCheck : Check
     flagsCheck = check (sameFlags (listOf (svcInfoBytes p i)) f) ServiceFlagsMismatched
-
-    ends : (two : Bool) → andThen (named two) clear ≡ named two
-    ends true = refl
-    ends false = refl
 
     own : verdict (sectionChecks (svcInfoBytes p i) ++ flagsCheck ∷ []) ≡ named (namesFieldTwo (counted l))
     own =

@@ -42,8 +42,8 @@ shortest rate high low checksum =
     0x96 ∷ 0x69 ∷ 0x0B ∷ rate ∷ 0x01 ∷ 0x00 ∷ 0x00 ∷ 0x74 ∷ high ∷ low ∷ checksum ∷ []
 
 -- a section of one entry, field 2 in English, behind this header byte
-abbrev pub fieldTwo : ℕ → ServiceInfoRead
-fieldTwo header = sectionRead (0x73 ∷ 0x81 ∷ header ∷ 0x65 ∷ 0x6E ∷ 0x67 ∷ 0x7F ∷ 0x3F ∷ 0xFF ∷ [])
+abbrev pub fieldTwoBehind : ℕ → ServiceInfoRead
+fieldTwoBehind header = sectionRead (0x73 ∷ 0x81 ∷ header ∷ 0x65 ∷ 0x6E ∷ 0x67 ∷ 0x7F ∷ 0x3F ∷ 0xFF ∷ [])
 
 -- what is written of 25/1 and nothing else
 abbrev pub thirteen : List ℕ
@@ -71,8 +71,8 @@ pub record Cases : Type 0 where
   -- a digital service with number 0
   pub p9 : entryRead (0x65 ∷ 0x6E ∷ 0x67 ∷ 0xC0 ∷ 0x3F ∷ 0xFF ∷ []) ≡ record { answer = numbers 8 0 0; entry = filler }
   -- header byte 81, which names 1, and 80, which names 0 as a field has it
-  pub p10 : fieldTwo 0x81 ≡ record { answer = numbers 7 0 0; list = empty }
-  pub p10-field-2 : fieldTwo 0x80
+  pub p10 : fieldTwoBehind 0x81 ≡ record { answer = numbers 7 0 0; list = empty }
+  pub p10-field-2 : fieldTwoBehind 0x80
       ≡ record { answer = numbers 0 0 0; list = list false false false (filled (entry (0x65 ∷ 0x6E ∷ 0x67 ∷ []) (Field false) ∷ [])) 1 }
   -- one entry counted, none there
   pub p11 : sectionRead (0x73 ∷ 0x81 ∷ []) ≡ record { answer = numbers 1 9 2; list = empty }
