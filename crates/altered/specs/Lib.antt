@@ -1,0 +1,3 @@
+pub mod Sequence
+pub mod Alteration
+pub mod Twins
