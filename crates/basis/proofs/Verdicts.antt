@@ -96,6 +96,11 @@ pub and-second : (v w : Verdict) → andThen v w ≡ clear → w ≡ clear
 and-second clear w h = h
 and-second (broken why) w h = absurd (broken-not-clear why h)
 
+-- nothing comes of a clear verdict behind another
+pub and-clear : (v : Verdict) → andThen v clear ≡ v
+and-clear clear = refl
+and-clear (broken why) = refl
+
 -- the checks of a part that is there are its own
 pub when-there : (present : Bool) (cs : List Check) → present ≡ true → verdict (when present cs) ≡ clear → verdict cs ≡ clear
 when-there true cs on h = h

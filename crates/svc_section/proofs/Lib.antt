@@ -1,1 +1,2 @@
 pub mod SvcInfoReads
+pub mod SvcInfoAlone

@@ -17,6 +17,7 @@ use Rattle.svc_entries.specs.Entries.{sectionLength}
 use Rattle.services.specs.ServiceList.{listAbsent, listPresent}
 use Rattle.services.specs.Writing.{counted, sectionBytes, valueAnswer, valueChecks}
 use Rattle.sections.specs.TimeCode.{timeCodeChecks, timeCodeOf}
+use Rattle.svc_section.proofs.SvcInfoAlone.{FlagsOf}
 use Rattle.svc_section.specs.SvcInfo.{svcInfoBytes, svcInfoChecks, svcInfoSize}
 use Rattle.writer.specs.Writer.{heldTime}
 use Rattle.theorems.proofs.SectionsBack.{list-value, section-size, services-verdict, time-clear, time-value}
@@ -42,24 +43,18 @@ ready l right languages =
     let both = value-done l (ap (λ (v : Verdict). eqb (answer v 0 .number) 0) right) in
     record { count = both .0; languages = languages; numbers = both .1 }
 
--- the header's flags are the list's
-pub record FlagsOf (f : Flags) (present : Bool) (l : ServiceInfo) : Type 0 where
-  pub start : f .«svc_info_start» ≡ (present && l .start)
-  pub change : f .«svc_info_change» ≡ (present && l .change)
-  pub complete : f .«svc_info_complete» ≡ (present && l .complete)
-
 pub record ServicesHere (p : List ℕ) (i : ℕ) (f : Flags) (present : Bool) (l : ServiceInfo) : Type 0 where
   pub answered : verdict (when present (svcInfoChecks p f i)) ≡ named (present && namesFieldTwo (counted l))
   pub shown : cond present (listPresent (listOf (svcInfoBytes p i))) listAbsent ≡ cond present (listPresent (listBack l)) listAbsent
   pub size : sizeWhen present (svcInfoSize p i) ≡ sizeWhen present (sectionLength (l .count))
 
-pub services-here : (p : List ℕ) (i : ℕ) (f : Flags) (present : Bool) (l : ServiceInfo) (rest : List ℕ) → FlagsOf f present l
+pub services-here : (p : List ℕ) (i : ℕ) (f : Flags) (present : Bool) (l : ServiceInfo) (rest : List ℕ) → (present ≡ true → FlagsOf f l)
     → drop i p ≡ cond present (sectionBytes l) [] ++ rest → verdict (when present (valueChecks l)) ≡ clear
     → (present ≡ true → allOfThree (counted l) ≡ true) → i + sizeWhen present (sectionLength (l .count)) ≤ length p → ServicesHere p i f present l
 services-here p i f true l rest flags h right languages fits =
     let r : Ready l = ready l right (languages refl) in
     record {
-      answered = services-verdict p i l rest h r f (flags .start) (flags .change) (flags .complete) fits;
+      answered = services-verdict p i l rest h r f (flags refl) fits;
       shown = ap listPresent (list-value p i l rest h r);
       size = section-size p i l rest h r;
     }

@@ -8,6 +8,7 @@ use native.Mathlib.Omega.{arith}
 use borrow.Author.Tests.{le-leb}
 use lib.Dec.{eqb}
 use lib.ListN.{drop, length, take}
+use Rattle.basis.proofs.Verdicts.{and-clear}
 use Rattle.basis.specs.Answer.{ServiceNumberMismatch, refused}
 use Rattle.basis.specs.Bytes.{over}
 use Rattle.basis.specs.Check.{answer, clear, ifClear, sizeWhen, verdict, when}
@@ -36,7 +37,7 @@ use Rattle.theorems.proofs.FooterBack.{checksum-is, closing-clear}
 use Rattle.theorems.proofs.HeaderBack.{flags-back, header-clear, rate-back, sequence-back}
 use Rattle.theorems.proofs.PartsBack.{ServicesHere, TimeHere, services-here, time-here}
 use Rattle.basis.proofs.Places.{further-on}
-use Rattle.theorems.proofs.SectionsBack.{captions-clear, captions-value, ends, size-is}
+use Rattle.theorems.proofs.SectionsBack.{captions-clear, captions-value, size-is}
 use Rattle.theorems.specs.RoundTrip.{ReadBack, captionsBack, fieldTwo, servicesBack, shownBack, writtenPacket}
 use Rattle.reader.specs.declared.parser.CDPParser.{CDPParser}
 use Rattle.services.specs.declared.list.ServiceInfo.{ServiceInfo}
@@ -159,7 +160,7 @@ module _ (w : CDPWriter) (rate : Framerate) (captions : List ℕ)
 
   services : ServicesHere p servicesFrom (flagsOf (w .«time_code») (w .«service_info»)) (w .«service_info» .present) list
   services =
-      services-here p servicesFrom (flagsOf (w .«time_code») (w .«service_info»)) (w .«service_info» .present) list fourth (record { start = refl; change = refl; complete = refl }) at-services (holds .served) languages (omega (arith, long))
+      services-here p servicesFrom (flagsOf (w .«time_code») (w .«service_info»)) (w .«service_info» .present) list fourth (λ (on : w .«service_info» .present ≡ true). record { start = rw on; change = rw on; complete = rw on }) at-services (holds .served) languages (omega (arith, long))
 
   services-right : verdict (when (flagsIn p .«svc_info») (svcInfoChecks p (flagsIn p) (svcInfoAt p))) ≡ named (fieldTwo (w .«service_info»))
   services-right = ap₂ (λ (f : Flags) (i : ℕ). verdict (when (f .«svc_info») (svcInfoChecks p f i))) flags services-at ∙ services .answered
@@ -186,7 +187,7 @@ module _ (w : CDPWriter) (rate : Framerate) (captions : List ℕ)
   packet-verdict =
       in-order p
       ∙ rw (header-right, ap (λ (f : Flags). verdict (when (f .«time_code») (timeCodeChecks p 7))) flags ∙ time .right, captions-right, services-right, footer-right)
-      (ends (fieldTwo (w .«service_info»)))
+      (and-clear (named (fieldTwo (w .«service_info»))))
 
   shown : shownBy p ≡ shownBack w rate
   unfolding shownBy

@@ -24,6 +24,7 @@ use Rattle.services.specs.Section.{listOf}
 use Rattle.services.specs.Writing.{counted, sectionByte, sectionBytes}
 use Rattle.sections.specs.CcData.{ccCount, ccDataChecks, ccDataSize, handedOut}
 use Rattle.sections.specs.TimeCode.{timeCodeChecks, timeCodeIn}
+use Rattle.svc_section.proofs.SvcInfoAlone.{FlagsOf, alone}
 use Rattle.svc_section.specs.SvcInfo.{sameFlags, svcInfoBytes, svcInfoChecks, svcInfoSize}
 use Rattle.packing.specs.Writing.{ccDataBytes}
 use Rattle.basis.proofs.Places.{byte-on, further-on, part-on}
@@ -112,14 +113,6 @@ module _ (p : List ℕ) (i : ℕ) (captions : List ℕ) (rest : List ℕ) (h : d
       ap₂ (λ (n : ℕ) (xs : List ℕ). (0xC0 + n) ∷ 0xFF ∷ xs) count-is (part-on p (i + 2) captions rest behind (3 * ccCount p i) long)
 
 -- services: the section that was written, its list, and flags that agree with the header's
-pub ends : (two : Bool) → andThen (named two) clear ≡ named two
-ends true = refl
-ends false = refl
-
-beq-same : (b : Bool) → Bool·beq b b ≡ true
-beq-same true = refl
-beq-same false = refl
-
 module _ (p : List ℕ) (i : ℕ) (l : ServiceInfo) (rest : List ℕ) (h : drop i p ≡ sectionBytes l ++ rest) (r : Ready l) where
   second : byte p (i + 1) ≡ sectionByte l
   unfolding sectionBytes
@@ -138,21 +131,13 @@ module _ (p : List ℕ) (i : ℕ) (l : ServiceInfo) (rest : List ℕ) (h : drop 
   pub list-value : listOf (svcInfoBytes p i) ≡ listBack l
   list-value = ap listOf section-bytes ∙ list-back l r
 
-  module _ (f : Flags) (start : f .«svc_info_start» ≡ l .start) (change : f .«svc_info_change» ≡ l .change)
-      (complete : f .«svc_info_complete» ≡ l .complete) where
-    flags-agree : sameFlags (listOf (svcInfoBytes p i)) f ≡ true
-    unfolding sameFlags
-    flags-agree = rw (list-value, start, change, complete, beq-same (l .start), beq-same (l .change), beq-same (l .complete))
+  -- the header's flags are the list's
+  flags-back : (f : Flags) → FlagsOf f l → FlagsOf f (listOf (svcInfoBytes p i))
+  flags-back f h = rw list-value (record { start = h .start; change = h .change; complete = h .complete })
 
-    abbrev flagsCheck : Check
-    flagsCheck = check (sameFlags (listOf (svcInfoBytes p i)) f) ServiceFlagsMismatched
-
-    own : verdict (sectionChecks (svcInfoBytes p i) ++ flagsCheck ∷ []) ≡ named (namesFieldTwo (counted l))
-    own =
-        verdict-append (sectionChecks (svcInfoBytes p i)) (flagsCheck ∷ [])
-        ∙ ap₂ andThen (ap (λ (d : List ℕ). verdict (sectionChecks d)) section-bytes ∙ section-verdict l r) (rw flags-agree)
-        ∙ ends (namesFieldTwo (counted l))
-
-    pub services-verdict : i + sectionLength (l .count) ≤ length p → verdict (svcInfoChecks p f i) ≡ named (namesFieldTwo (counted l))
-    services-verdict fits =
-        simp (le-leb (i + 2) (length p) (omega arith), eq-eqb _ _ third, le-leb (i + svcInfoSize p i) (length p) (omega (arith, section-size))) own
+  pub services-verdict : (f : Flags) → FlagsOf f l → i + sectionLength (l .count) ≤ length p
+      → verdict (svcInfoChecks p f i) ≡ named (namesFieldTwo (counted l))
+  services-verdict f flags fits =
+      alone p f i (omega (arith, section-size, fits)) third (flags-back f flags)
+      ∙ ap (λ (d : List ℕ). verdict (sectionChecks d)) section-bytes
+      ∙ section-verdict l r
