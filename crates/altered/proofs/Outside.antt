@@ -58,7 +58,7 @@ module _ (p q : List ℕ) (size : length q ≡ length p) where
   moves i footer true h = omega arith
   moves i footer false h = omega (arith, h)
 
-  further : (turns i : ℕ) → i ≤ footerFrom turns p i
+  pub further : (turns i : ℕ) → i ≤ footerFrom turns p i
   further zero i = omega arith
   further (suc turns) i = moves i (footerFrom turns p (next i)) (eqb (byte p i) 0x74) (further turns (next i))
 

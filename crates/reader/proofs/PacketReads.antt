@@ -228,7 +228,7 @@ module _ (p : List ℕ) where
         unfolding closingRead packetRead shownBy
         packet-whole h = ap (λ (v : Verdict). given v (captionLength p) (shownBy p) (ccDataAt p)) (sym (behind-svc-info ∙ done-clear closing 0 h))
 
-  -- the parts of an accepted packet: its size is the one that it says, and captions and footer are clear
+  -- the parts of an accepted packet: its size is the one that it says, and captions, services and footer are clear
   pub size-of-packet : verdict (packetChecks p) ≡ clear → byte p 2 ≡ length p
   size-of-packet h =
       let size : Check = check (eqb (byte p 2) (length p)) (LengthMismatch (byte p 2) (length p)) in
@@ -238,6 +238,9 @@ module _ (p : List ℕ) where
 
   pub cc-data-of-packet : verdict (packetChecks p) ≡ clear → ccData ≡ clear
   cc-data-of-packet h = and-first _ _ (and-second timeCode _ (and-second header _ (sym in-order ∙ h)))
+
+  pub svc-info-of-packet : verdict (packetChecks p) ≡ clear → svcInfo ≡ clear
+  svc-info-of-packet h = and-first _ _ (and-second ccData _ (and-second timeCode _ (and-second header _ (sym in-order ∙ h))))
 
   pub closing-of-packet : verdict (packetChecks p) ≡ clear → closing ≡ clear
   closing-of-packet h = and-second svcInfo _ (and-second ccData _ (and-second timeCode _ (and-second header _ (sym in-order ∙ h))))
