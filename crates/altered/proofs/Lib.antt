@@ -1,3 +1,4 @@
 pub mod Spans
 pub mod Outside
 pub mod Acceptance
+pub mod Sequences

@@ -1,0 +1,99 @@
+-- The third demand: one call, and from there any sequence of calls.
+-- Assumes nothing.
+use mathlib.Core.Bool.{true}
+use mathlib.Core.List.{List, [], _∷_}
+use mathlib.Core.Path.{_≡_, _∙_, sym, refl, ap, ap₂}
+use Prim.Native.Nat.{ℕ, _≤_}
+use borrow.Author.Tests.{le-leb}
+use lib.Dec.{eqb}
+use lib.ListN.{length, take}
+use Rattle.basis.proofs.Verdicts.{refused-not-done}
+use Rattle.basis.specs.Answer as Table
+use Rattle.basis.specs.Check.{Verdict, answer, broken, clear, ifClear, verdict}
+use Rattle.reader.proofs.Refusals.{acceptance-hands-out}
+use Rattle.reader.specs.Packet.{captionLength, packetChecks, shownBy}
+use Rattle.reader.specs.Reader.{bufferAfter, captionsOf, cleared, read}
+use Rattle.altered.proofs.Acceptance.{accepted-too, captions-length, captions-new, shown-too}
+use Rattle.altered.specs.Alteration.{Altered, newList}
+use Rattle.altered.specs.Sequence.{Shown, call, captionsShown, reading, run}
+use Rattle.altered.specs.Twins.{Allowed, Excepted, Twin, Twins, after, altered, calls, exceptedAfter, firstOf, flushes, list, nothing, same, saveBoth, secondOf, withList}
+use Rattle.reader.specs.declared.parser.CDPParser.{CDPParser}
+use Rattle.basis.specs.declared.answer.Answer.{Answer}
+
+-- what a verdict on a packet shows, with room for captions
+abbrev pub given : Verdict → ℕ → CDPParser → CDPParser → List ℕ → Shown
+given v length shown s captions =
+    record { answer = answer v length; parser = ifClear v shown (cleared s); captions = ifClear v captions [] }
+
+out : (v : Verdict) (length : ℕ) (buffer captions : List ℕ) → (v ≡ clear → take length buffer ≡ captions)
+    → captionsShown (answer v length) buffer ≡ ifClear v captions []
+out clear length buffer captions h = h refl
+out (broken why) length buffer captions h = rw (refused-not-done why)
+
+module _ (s : CDPParser) (p lent : List ℕ) (room : 95 ≤ length lent) where
+  answered : read s p (length lent) .answer ≡ answer (verdict (packetChecks p)) (captionLength p)
+  unfolding read
+  answered = simp (le-leb _ _ room)
+
+  left : read s p (length lent) .parser ≡ ifClear (verdict (packetChecks p)) (shownBy p) (cleared s)
+  unfolding read
+  left = simp (le-leb _ _ room)
+
+  handed : verdict (packetChecks p) ≡ clear → take (captionLength p) (bufferAfter p lent) ≡ captionsOf p
+  handed h =
+      let done : read s p (length lent) .answer ≡ Table.done (captionLength p) = answered ∙ ap (λ (v : Verdict). answer v (captionLength p)) h in
+      ap (λ (a : Answer). take (a .first) (bufferAfter p lent)) (sym done)
+      ∙ acceptance-hands-out s p lent (ap (λ (a : Answer). eqb (a .number) 0) done)
+
+  pub reading-is : reading s p lent ≡ given (verdict (packetChecks p)) (captionLength p) (shownBy p) s (captionsOf p)
+  reading-is =
+      rw (answered, left) (ap (λ (c : List ℕ). record { answer = answer (verdict (packetChecks p)) (captionLength p); parser = ifClear (verdict (packetChecks p)) (shownBy p) (cleared s); captions = c })
+      (out (verdict (packetChecks p)) (captionLength p) (bufferAfter p lent) (captionsOf p) handed))
+
+-- a refusal keeps the list that is excepted
+pub cleared-with : (e : Excepted) (s : CDPParser) → cleared (withList e s) ≡ withList e (cleared s)
+cleared-with nothing s = refl
+cleared-with (list l) s = refl
+
+stays : (v : Verdict) (length : ℕ) (shown s : CDPParser) (captions : List ℕ) (e : Excepted) (p lent lent′ : List ℕ)
+    → given v length shown (withList e s) captions
+    ≡ saveBoth (same p lent lent′) (exceptedAfter (same p lent lent′) (answer v length) e) (given v length shown s captions)
+stays clear length shown s captions e p lent lent′ = refl
+stays (broken why) length shown s captions e p lent lent′ = rw (refused-not-done why, cleared-with e s)
+
+differs : (p q lent lent′ : List ℕ) (a : Altered p q) (e : Excepted) (s : CDPParser)
+    → given (verdict (packetChecks q)) (captionLength q) (shownBy q) (withList e s) (captionsOf q)
+    ≡ saveBoth (altered p q lent lent′) (list (newList p q)) (given (verdict (packetChecks p)) (captionLength p) (shownBy p) s (captionsOf p))
+differs p q lent lent′ a e s = rw (accepted-too p q a, a .put .accepted, captions-length p q a, shown-too p q a, captions-new p q a)
+
+-- one call: what the second sequence shows
+abbrev saved : Twin → Excepted → Shown → Shown
+saved t e a = saveBoth t (exceptedAfter t (a .answer) e) a
+
+step : (t : Twin) → Allowed Altered t → (e : Excepted) (s : CDPParser) → call (withList e s) (secondOf t) ≡ saved t e (call s (firstOf t))
+step flushes _ e s = refl
+step (same p lent lent′) room e s =
+    reading-is (withList e s) p lent′ (room .second)
+    ∙ stays (verdict (packetChecks p)) (captionLength p) (shownBy p) s (captionsOf p) e p lent lent′
+    ∙ ap (saved (same p lent lent′) e) (sym (reading-is s p lent (room .first)))
+step (altered p q lent lent′) (room, a) e s =
+    reading-is (withList e s) q lent′ (room .second)
+    ∙ differs p q lent lent′ a e s
+    ∙ ap (saved (altered p q lent lent′) e) (sym (reading-is s p lent (room .first)))
+
+-- all calls, from any state and with any list excepted before the first of them
+all-calls : (ts : List Twin) → Twins Altered ts → (e : Excepted) (s : CDPParser)
+    → run (withList e s) (calls secondOf ts) ≡ after saveBoth ts e (run s (calls firstOf ts))
+all-calls [] _ e s = refl
+all-calls (t ∷ ts) (h, hs) e s =
+    let one = step t h e s in
+    let first : Shown = call s (firstOf t) in
+    ap₂ _∷_ one
+    (ap (λ (c : Shown). run (c .parser) (calls secondOf ts)) one ∙ all-calls ts hs (exceptedAfter t (first .answer) e) (first .parser))
+
+-- Both halves at once: other captions, other services, or both in one packet, in any of the accepted packets that end with
+-- their footer. All answers and all that is shown stay the same, save the new captions and, until the next accepted packet
+-- or flush, the new list.
+pub both-halves : (s : CDPParser) (ts : List Twin) → Twins Altered ts
+    → run s (calls secondOf ts) ≡ after saveBoth ts nothing (run s (calls firstOf ts))
+both-halves s ts h = all-calls ts h nothing s
