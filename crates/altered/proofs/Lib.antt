@@ -2,3 +2,5 @@ pub mod Spans
 pub mod Outside
 pub mod Acceptance
 pub mod Sequences
+pub mod OneHalf
+pub mod Halves
