@@ -4,3 +4,4 @@ pub mod Acceptance
 pub mod Sequences
 pub mod OneHalf
 pub mod Halves
+pub mod Examples

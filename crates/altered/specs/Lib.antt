@@ -1,3 +1,4 @@
 pub mod Sequence
 pub mod Alteration
 pub mod Twins
+pub mod Examples

@@ -1,0 +1,76 @@
+-- The examples hold: each is computed.
+-- Assumes nothing.
+use mathlib.Core.List.{List, [], _∷_}
+use mathlib.Core.Path.{_≡_, _∙_, sym, refl, ap}
+use Prim.Native.Nat.{ℕ}
+use mathlib.Core.Bool.{false, true≢false}
+use native.Mathlib.Omega.{arith}
+use borrow.Author.Tests.{eq-eqb}
+use lib.Dec.{eqb}
+use lib.ListN.{replicate}
+use Rattle.basis.specs.Bytes.{byte, over}
+use Rattle.values.specs.Rate.{fromId}
+use Rattle.times.specs.Time.{digits}
+use Rattle.svc_entries.specs.Entries.{filled, sectionChecks}
+use Rattle.services.specs.Section.{listOf, sectionRead}
+use Rattle.sections.specs.Header.{flagsIn}
+use Rattle.footer.specs.Footer.{closingChecks}
+use Rattle.svc_section.specs.SvcInfo.{sameFlags}
+use Rattle.reader.specs.Packet.{closingAt, packetChecks, shownBy, svcInfoAt}
+use Rattle.reader.specs.Reader.{bufferAfter, read}
+use Rattle.altered.specs.Alteration.{OtherSection, Put, captionsFrom, sectionIn}
+use Rattle.altered.specs.Examples.{Examples, before, spanish, withBoth, withCaptions′, withSpanish}
+use Rattle.altered.specs.Sequence.{Call, flush, packet}
+use Rattle.altered.specs.Twins.{Lent}
+
+-- the checksum byte of a sequence's first packet
+abbrev last : List Call → ℕ
+last [] = 0
+last (packet p lent ∷ cs) = byte p 29
+last (flush ∷ cs) = 0
+
+apart : (a b : ℕ) → eqb a b ≡ false → a ≡ b → ⊥
+apart a b h e = true≢false (sym (eq-eqb a b e) ∙ h)
+
+-- every packet has room for its captions
+room : Lent (replicate 95 0x00) (replicate 96 0xA5)
+room = record { first = omega arith; second = omega arith }
+
+room′ : Lent (replicate 200 0x00) (replicate 95 0x00)
+room′ = record { first = omega arith; second = omega arith }
+
+captions-put : Put (captionsFrom before) (svcInfoAt before) before withCaptions′
+unfolding packetChecks closingChecks sectionChecks listOf filled sameFlags fromId
+captions-put =
+    record { accepted = refl; endsWithFooter = refl; equallyMany = refl; beforeFlags = refl; beforeSpan = refl; behindSpan = refl; checksumMended = refl }
+
+services-put : Put (svcInfoAt before) (closingAt before) before withSpanish
+unfolding packetChecks closingChecks sectionChecks listOf filled sameFlags fromId
+services-put =
+    record { accepted = refl; endsWithFooter = refl; equallyMany = refl; beforeFlags = refl; beforeSpan = refl; behindSpan = refl; checksumMended = refl }
+
+both-put : Put (captionsFrom before) (closingAt before) before withBoth
+unfolding packetChecks closingChecks sectionChecks listOf filled sameFlags fromId
+both-put =
+    record { accepted = refl; endsWithFooter = refl; equallyMany = refl; beforeFlags = refl; beforeSpan = refl; behindSpan = refl; checksumMended = refl }
+
+section-put : (q : List ℕ) → sectionIn before q ≡ spanish → flagsIn q ≡ flagsIn withSpanish → OtherSection before q
+unfolding sectionChecks sectionRead listOf filled
+section-put q section flags =
+    record { wellFormed = rw section; asManyEntries = rw section; headerFlagsMended = rw (section, flags) }
+
+pub examples : Examples
+unfolding packetChecks closingChecks sectionChecks sectionRead listOf filled sameFlags fromId digits read shownBy bufferAfter over
+examples =
+    record {
+      otherCaptions = ((room, record { put = captions-put; sameFlags = refl }), (room′, (tt, tt)));
+      otherServices = ((room, record { put = services-put; hasServices = refl; section = section-put withSpanish refl refl }), (room′, (tt, tt)));
+      both = ((room, record { put = both-put; section = λ on. section-put withBoth refl refl; sameFlags = λ off. absurd (true≢false off) }), (room′, (tt, tt)));
+      captionsDiffer = λ h. apart 0x3C 0x38 refl (ap last h);
+      servicesDiffer = λ h. apart 0x3C 0x1E refl (ap last h);
+      bothDiffer = λ h. apart 0x3C 0x1A refl (ap last h);
+      answered = refl;
+      answeredAfter = refl;
+      listed = refl;
+      listedAfter = refl;
+    }
