@@ -1,7 +1,7 @@
 -- A packet that was altered is accepted as it was before, and shows what it did, save its captions and its list.
 -- Assumes nothing.
 use mathlib.Core.Bool.{Bool, true, false, cond}
-use mathlib.Core.List.{List, [], _∷_}
+use mathlib.Core.List.{List, []}
 use mathlib.Core.Path.{_≡_, _∙_, sym, refl, ap, ap₂}
 use Prim.Native.Nat.{ℕ, _+_, _-_, _≤_}
 use native.Mathlib.Nat.{add-zero}
@@ -9,19 +9,19 @@ use native.Mathlib.Omega.{arith}
 use borrow.Author.Tests.{eqb-true}
 use lib.Dec.{eqb, leb}
 use lib.ListN.{drop, length}
-use Rattle.basis.proofs.Verdicts.{and-first, andThen, done-clear, done-value, kept-first, kept-rest, verdict-append}
-use Rattle.basis.specs.Answer.{InvalidFixedBits, LengthMismatch, WrongMagic}
+use Rattle.basis.proofs.Verdicts.{andThen, done-clear, kept-first, kept-rest}
+use Rattle.basis.specs.Answer.{LengthMismatch, WrongMagic}
 use Rattle.basis.specs.Bytes.{byte}
 use Rattle.basis.specs.Check.{Check, Verdict, check, clear, ifClear, sizeWhen, verdict, when}
-use Rattle.basis.specs.Mask.{allSet, under, x0F, x80, xF0}
+use Rattle.basis.specs.Mask.{under, x0F, xF0}
 use Rattle.values.specs.Flags.{flagsOf}
 use Rattle.values.specs.Packet.{servicesId}
 use Rattle.values.specs.Rate.{fromId}
-use Rattle.svc_entries.specs.Entries.{countOf, entryListChecks, frameChecks, sectionChecks, sectionLength}
+use Rattle.svc_entries.specs.Entries.{countOf, sectionChecks, sectionLength}
 use Rattle.services.specs.Section.{listOf, sectionRead}
 use Rattle.services.specs.ServiceList.{empty, listAbsent, listPresent}
 use Rattle.sections.specs.CcData.{ccDataChecks, ccDataSize, handedOut}
-use Rattle.sections.specs.Header.{flagsIn, headerChecks, rateOf, sequenceIn}
+use Rattle.sections.specs.Header.{flagsIn, rateOf, sequenceIn}
 use Rattle.sections.specs.TimeCode.{timeCodeChecks, timeCodeOf}
 use Rattle.footer.proofs.FooterFound.{checksum-kept}
 use Rattle.footer.specs.Footer.{checksumOf, closingChecks}
@@ -30,11 +30,10 @@ use Rattle.svc_section.specs.SvcInfo.{svcInfoBytes, svcInfoChecks, svcInfoOf, s
 use Rattle.reader.proofs.PacketReads.{closing-of-packet, in-order, svc-info-of-packet}
 use Rattle.reader.specs.Packet.{captionLength, ccDataAt, closingAt, footerAt, packetChecks, shownBy, state, svcInfoAt}
 use Rattle.reader.specs.Reader.{captionsOf}
-use Rattle.altered.proofs.Outside.{Same, captions-same, captions-size, closing-same, further, header-same, time-same, time-shown}
+use Rattle.altered.proofs.Outside.{Same, before, behind, captions-same, captions-size, closing-same, header-same, section-fits, time-same, time-shown}
 use Rattle.altered.proofs.Spans.{byte-part, bytes-same}
-use Rattle.altered.specs.Alteration.{Altered, OtherSection, Put, captionsFrom, mendedFlags, newCaptions, newList, sectionIn}
+use Rattle.altered.specs.Alteration.{Altered, Put, captionsFrom, mendedFlags, newCaptions, newList, sectionIn}
 use Rattle.basis.specs.declared.answer.Answer.{Answer}
-use Rattle.reader.specs.declared.parser.CDPParser.{CDPParser}
 use Rattle.services.specs.declared.list.ServiceInfo.{ServiceInfo}
 use Rattle.values.specs.declared.flags.Flags.{Flags}
 
@@ -50,10 +49,7 @@ module _ (p q : List ℕ) (a : Altered p q) where
   first i low high = bytes-same p q 0 4 (put .beforeFlags) i low high
 
   front : Same p q 5 (captionsFrom p)
-  front i low high = bytes-same p q 5 (captionsFrom p - 5) (put .beforeSpan) i low (omega (arith, high))
-
-  back : Same p q (closingAt p) (length p - 1)
-  back i low high = bytes-same p q (closingAt p) (length p - 1 - closingAt p) (put .behindSpan) i low (omega (arith, low, high))
+  front = before (captionsFrom p) (closingAt p) p q put
 
   -- the flags: those that say which sections there are
   flag-kept : (of : Flags → Bool) → ((l : ServiceInfo) → of (mendedFlags (flagsIn p) l) ≡ of (flagsIn p)) → of (flagsIn q) ≡ of (flagsIn p)
@@ -128,9 +124,6 @@ module _ (p q : List ℕ) (a : Altered p q) where
       ap₂ _+_ services-at
       (ap₂ (λ (b : Bool) (i : ℕ). sizeWhen b (svcInfoSize q i)) serviced services-at ∙ sized (flagsIn p .«svc_info») refl)
 
-  closing-fits : closingAt p + 4 ≤ length p
-  closing-fits = omega (arith, put .endsWithFooter, further p q size (length p) (closingAt p))
-
   -- the new section, where there is one: its own rules, and the flags that the header has of it
   module _ (on : flagsIn p .«svc_info» ≡ true) where
     abbrev own : List ℕ
@@ -163,9 +156,8 @@ module _ (p q : List ℕ) (a : Altered p q) where
 
     own-fits : at + svcInfoSize q at ≤ length q
     own-fits =
-        let place : closingAt p ≡ at + svcInfoSize p at = ap (λ (b : Bool). at + sizeWhen b (svcInfoSize p at)) on in
         let same : svcInfoSize q at ≡ svcInfoSize p at = sized true on in
-        omega (arith, place, same, closing-fits, size)
+        omega (arith, same, section-fits (captionsFrom p) (closingAt p) p q put on, size)
 
     own-verdict : verdict (svcInfoChecks q (flagsIn q) at) ≡ clear
     own-verdict = alone q (flagsIn q) at own-fits own-id own-flags ∙ own-clear
@@ -187,7 +179,7 @@ module _ (p q : List ℕ) (a : Altered p q) where
       let kept : byte p (footerAt p + 3) ≡ checksumOf p = checksum-kept p (sequenceIn p) (closingAt p) (closing-of-packet p (put .accepted)) in
       let last : length p - 1 ≡ footerAt p + 3 = omega (arith, put .endsWithFooter) in
       ap₂ (λ (s i : ℕ). closingChecks q s i) sequenced closing-at
-      ∙ closing-same p q size (closingAt p) (sequenceIn p) back (put .endsWithFooter) (ap (byte p) last ∙ kept) (put .checksumMended)
+      ∙ closing-same p q size (closingAt p) (sequenceIn p) (behind (captionsFrom p) (closingAt p) p q put) (put .endsWithFooter) (ap (byte p) last ∙ kept) (put .checksumMended)
 
   pub accepted-too : verdict (packetChecks q) ≡ clear
   accepted-too =

@@ -5,11 +5,11 @@ use mathlib.Core.Path.{_≡_, _∙_, sym, refl, ap, ap₂, subst}
 use Prim.Native.Nat.{ℕ}
 use Rattle.basis.proofs.Verdicts.{refused-not-done}
 use Rattle.basis.specs.Check.{Verdict, answer, broken, clear, verdict}
-use Rattle.reader.specs.Packet.{captionLength, packetChecks, shownBy, state}
+use Rattle.reader.specs.Packet.{captionLength, packetChecks, shownBy}
 use Rattle.reader.specs.Reader.{captionsOf, cleared}
 use Rattle.altered.proofs.OneHalf.{captions-altered, captions-stay, list-stays, services-altered}
 use Rattle.altered.proofs.Sequences.{both-halves, cleared-with, given, reading-is}
-use Rattle.altered.specs.Alteration.{Altered, OtherCaptions, OtherServices, newList}
+use Rattle.altered.specs.Alteration.{Altered, OtherCaptions, OtherServices}
 use Rattle.altered.specs.Sequence.{Shown, call, run}
 use Rattle.altered.specs.Twins.{Allowed, Excepted, Twin, Twins, after, altered, calls, exceptedAfter, firstOf, flushes, list, nothing, same, saveBoth, saveCaptions, saveList, secondOf, withCaptions, withList}
 use Rattle.reader.specs.declared.parser.CDPParser.{CDPParser}

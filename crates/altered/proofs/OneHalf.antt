@@ -3,38 +3,30 @@
 use mathlib.Core.Bool.{Bool, true, false, cond, true≢false}
 use mathlib.Core.List.{List, [], _∷_}
 use mathlib.Core.Path.{_≡_, _∙_, sym, refl, ap, ap₂}
-use Prim.Native.Nat.{ℕ, _+_, _-_, _*_, _≤_, _<_}
+use Prim.Native.Nat.{ℕ, _+_, _-_, _*_, _≤_}
 use native.Mathlib.Omega.{arith}
 use lib.ListN.{length}
 use Rattle.basis.proofs.Verdicts.{when-there}
-use Rattle.basis.specs.Answer.{done}
-use Rattle.basis.specs.Bytes.{byte, part}
-use Rattle.basis.specs.Check.{Verdict, answer, clear, ifClear, sizeWhen, verdict}
+use Rattle.basis.specs.Bytes.{part}
+use Rattle.basis.specs.Check.{clear, sizeWhen, verdict}
 use Rattle.basis.specs.Mask.{under, x0F, x1F}
 use Rattle.values.specs.Flags.{flagsOf}
 use Rattle.svc_entries.specs.Entries.{countOf, sectionChecks, sectionLength}
 use Rattle.services.specs.Section.{listOf, sectionRead}
-use Rattle.services.specs.ServiceList.{empty, listAbsent, listPresent}
+use Rattle.services.specs.ServiceList.{listAbsent, listPresent}
 use Rattle.sections.specs.CcData.{ccCount, ccDataSize, handedOut}
 use Rattle.sections.specs.Header.{flagsIn}
 use Rattle.svc_section.proofs.SvcInfoAlone.{FlagsOf, flags-kept, own-kept}
-use Rattle.svc_section.specs.SvcInfo.{svcInfoBytes, svcInfoChecks, svcInfoSize}
+use Rattle.svc_section.specs.SvcInfo.{svcInfoChecks, svcInfoSize}
 use Rattle.reader.proofs.PacketReads.{svc-info-of-packet}
-use Rattle.reader.specs.Packet.{ccDataAt, closingAt, shownBy, svcInfoAt}
+use Rattle.reader.specs.Packet.{ccDataAt, closingAt, svcInfoAt}
 use Rattle.reader.specs.Reader.{captionsOf}
-use Rattle.altered.proofs.Outside.{Same, further}
-use Rattle.altered.proofs.Spans.{bytes-same, parts-same}
-use Rattle.altered.specs.Alteration.{Altered, OtherCaptions, OtherSection, OtherServices, Put, captionsFrom, mendedFlags, newCaptions, newList, sectionIn}
-use Rattle.services.specs.declared.list.ServiceInfo.{ServiceInfo}
+use Rattle.altered.proofs.Outside.{Same, before, behind, section-fits}
+use Rattle.altered.proofs.Spans.{parts-same}
+use Rattle.altered.specs.Alteration.{Altered, OtherCaptions, OtherSection, OtherServices, Put, captionsFrom, newCaptions, newList, sectionIn}
 
 -- a span in a wider one
 module _ (from to : ℕ) (p q : List ℕ) (put : Put from to p q) where
-  pub before : Same p q 5 from
-  before i low high = bytes-same p q 5 (from - 5) (put .beforeSpan) i low (omega (arith, low, high))
-
-  pub behind : Same p q to (length p - 1)
-  behind i low high = bytes-same p q to (length p - 1 - to) (put .behindSpan) i low (omega (arith, low, high))
-
   pub wider : (from′ to′ : ℕ) → from′ ≤ from → to ≤ to′ → Put from′ to′ p q
   wider from′ to′ earlier later =
       record {
@@ -42,8 +34,8 @@ module _ (from to : ℕ) (p q : List ℕ) (put : Put from to p q) where
         endsWithFooter = put .endsWithFooter;
         equallyMany = put .equallyMany;
         beforeFlags = put .beforeFlags;
-        beforeSpan = parts-same p q (put .equallyMany) 5 (from′ - 5) (λ (i : ℕ) low high. before i low (omega (arith, low, high)));
-        behindSpan = parts-same p q (put .equallyMany) to′ (length p - 1 - to′) (λ (i : ℕ) low high. behind i (omega (arith, low)) (omega (arith, low, high)));
+        beforeSpan = parts-same p q (put .equallyMany) 5 (from′ - 5) (λ (i : ℕ) low high. before from to p q put i low (omega (arith, low, high)));
+        behindSpan = parts-same p q (put .equallyMany) to′ (length p - 1 - to′) (λ (i : ℕ) low high. behind from to p q put i (omega (arith, low)) (omega (arith, low, high)));
         checksumMended = put .checksumMended;
       }
 
@@ -53,13 +45,8 @@ module _ (p q : List ℕ) (c : OtherCaptions p q) where
   at = svcInfoAt p
 
   module _ (on : flagsIn p .«svc_info» ≡ true) where
-    fits : at + svcInfoSize p at + 4 ≤ length p
-    fits =
-        let place : closingAt p ≡ at + svcInfoSize p at = ap (λ (b : Bool). at + sizeWhen b (svcInfoSize p at)) on in
-        omega (arith, place, c .put .endsWithFooter, further p q (c .put .equallyMany) (length p) (closingAt p))
-
     inside : Same p q at (at + svcInfoSize p at)
-    inside i low high = behind (captionsFrom p) at p q (c .put) i low (omega (arith, high, fits))
+    inside i low high = behind (captionsFrom p) at p q (c .put) i low (omega (arith, high, section-fits (captionsFrom p) at p q (c .put) on))
 
     pub section-kept : sectionIn p q ≡ sectionIn p p
     section-kept =

@@ -7,14 +7,18 @@ use Prim.Native.Nat.{ℕ, zero, suc, _+_, _-_, _≤_, _<_}
 use native.Mathlib.Omega.{arith}
 use borrow.Author.Tests.{eq-eqb}
 use lib.Dec.{eqb}
-use lib.ListN.{length, take}
+use lib.ListN.{length}
 use Rattle.basis.specs.Bytes.{byte}
-use Rattle.basis.specs.Check.{Check, sizeWhen, when}
+use Rattle.basis.specs.Check.{sizeWhen, when}
 use Rattle.sections.specs.CcData.{ccDataChecks, ccDataSize}
-use Rattle.sections.specs.Header.{headerChecks, rateOf, sequenceIn}
+use Rattle.sections.specs.Header.{flagsIn, headerChecks}
 use Rattle.sections.specs.Section.{sizeCheck}
 use Rattle.sections.specs.TimeCode.{timeCodeChecks, timeCodeOf}
 use Rattle.footer.specs.Footer.{checksumOf, closingChecks, footerChecks, footerFrom, futureChecks, futureChecksAt, futureLength}
+use Rattle.svc_section.specs.SvcInfo.{svcInfoSize}
+use Rattle.reader.specs.Packet.{closingAt, svcInfoAt}
+use Rattle.altered.proofs.Spans.{bytes-same}
+use Rattle.altered.specs.Alteration.{Put}
 
 -- bytes from one place up to another are the same
 abbrev pub Same : List ℕ → List ℕ → ℕ → ℕ → Type 0
@@ -114,3 +118,19 @@ module _ (p q : List ℕ) (size : length q ≡ length p) where
         let place : footerFrom (length q) q i ≡ footer = ap (λ (n : ℕ). footerFrom n q i) size ∙ steps .1 in
         let room : sizeCheck q (i + 2) ≡ sizeCheck p (i + 2) = rw size in
         ap₂ _∷_ room (ap₂ _++_ future (ap (footerChecks q sequence) place ∙ footer-same))
+
+-- what is the same where bytes were put, and how far the packet goes on behind its sections
+module _ (from to : ℕ) (p q : List ℕ) (put : Put from to p q) where
+  pub before : Same p q 5 from
+  before i low high = bytes-same p q 5 (from - 5) (put .beforeSpan) i low (omega (arith, low, high))
+
+  pub behind : Same p q to (length p - 1)
+  behind i low high = bytes-same p q to (length p - 1 - to) (put .behindSpan) i low (omega (arith, low, high))
+
+  pub closing-fits : closingAt p + 4 ≤ length p
+  closing-fits = omega (arith, put .endsWithFooter, further p q (put .equallyMany) (length p) (closingAt p))
+
+  pub section-fits : flagsIn p .«svc_info» ≡ true → svcInfoAt p + svcInfoSize p (svcInfoAt p) + 4 ≤ length p
+  section-fits on =
+      let place : closingAt p ≡ svcInfoAt p + svcInfoSize p (svcInfoAt p) = ap (λ (b : Bool). svcInfoAt p + sizeWhen b (svcInfoSize p (svcInfoAt p))) on in
+      omega (arith, place, closing-fits)

@@ -1,6 +1,6 @@
 -- The third demand: one call, and from there any sequence of calls.
 -- Assumes nothing.
-use mathlib.Core.Bool.{true}
+use mathlib.Core.Bool.{Bool, cond}
 use mathlib.Core.List.{List, [], _∷_}
 use mathlib.Core.Path.{_≡_, _∙_, sym, refl, ap, ap₂}
 use Prim.Native.Nat.{ℕ, _≤_}
@@ -8,7 +8,7 @@ use borrow.Author.Tests.{le-leb}
 use lib.Dec.{eqb}
 use lib.ListN.{length, take}
 use Rattle.basis.proofs.Verdicts.{refused-not-done}
-use Rattle.basis.specs.Answer as Table
+use Rattle.basis.specs.Answer.{Refusal, done, refused}
 use Rattle.basis.specs.Check.{Verdict, answer, broken, clear, ifClear, verdict}
 use Rattle.reader.proofs.Refusals.{acceptance-hands-out}
 use Rattle.reader.specs.Packet.{captionLength, packetChecks, shownBy}
@@ -41,9 +41,9 @@ module _ (s : CDPParser) (p lent : List ℕ) (room : 95 ≤ length lent) where
 
   handed : verdict (packetChecks p) ≡ clear → take (captionLength p) (bufferAfter p lent) ≡ captionsOf p
   handed h =
-      let done : read s p (length lent) .answer ≡ Table.done (captionLength p) = answered ∙ ap (λ (v : Verdict). answer v (captionLength p)) h in
-      ap (λ (a : Answer). take (a .first) (bufferAfter p lent)) (sym done)
-      ∙ acceptance-hands-out s p lent (ap (λ (a : Answer). eqb (a .number) 0) done)
+      let accepted : read s p (length lent) .answer ≡ done (captionLength p) = answered ∙ ap (λ (v : Verdict). answer v (captionLength p)) h in
+      ap (λ (a : Answer). take (a .first) (bufferAfter p lent)) (sym accepted)
+      ∙ acceptance-hands-out s p lent (ap (λ (a : Answer). eqb (a .number) 0) accepted)
 
   pub reading-is : reading s p lent ≡ given (verdict (packetChecks p)) (captionLength p) (shownBy p) s (captionsOf p)
   reading-is =
@@ -55,11 +55,15 @@ pub cleared-with : (e : Excepted) (s : CDPParser) → cleared (withList e s) ≡
 cleared-with nothing s = refl
 cleared-with (list l) s = refl
 
+abbrev refusing : Refusal → CDPParser → Shown
+refusing why s = record { answer = refused why; parser = s; captions = [] }
+
 stays : (v : Verdict) (length : ℕ) (shown s : CDPParser) (captions : List ℕ) (e : Excepted) (p lent lent′ : List ℕ)
     → given v length shown (withList e s) captions
     ≡ saveBoth (same p lent lent′) (exceptedAfter (same p lent lent′) (answer v length) e) (given v length shown s captions)
 stays clear length shown s captions e p lent lent′ = refl
-stays (broken why) length shown s captions e p lent lent′ = rw (refused-not-done why, cleared-with e s)
+stays (broken why) length shown s captions e p lent lent′ =
+    ap (refusing why) (cleared-with e s) ∙ ap (λ (accepted : Bool). refusing why (withList (cond accepted nothing e) (cleared s))) (sym (refused-not-done why))
 
 differs : (p q lent lent′ : List ℕ) (a : Altered p q) (e : Excepted) (s : CDPParser)
     → given (verdict (packetChecks q)) (captionLength q) (shownBy q) (withList e s) (captionsOf q)

@@ -4,7 +4,7 @@ use mathlib.Core.List.{List}
 use mathlib.Core.Path.{_≡_, _∙_, sym, ap}
 use Prim.Native.Nat.{ℕ, _+_, _-_, _≤_, _<_}
 use native.Mathlib.Omega.{arith}
-use lib.ListN.{drop, length, length-drop, length-take, take}
+use lib.ListN.{drop, length, length-drop, length-take}
 use lib.Seq.{ext-getD, getD-drop, getD-take}
 use Rattle.basis.specs.Bytes.{byte, part}
 

@@ -1,6 +1,5 @@
 -- Time code, captions and services read back from the place where they stand.
 -- Assumes nothing.
-use mathlib.Core.Bool.{Bool, Bool·beq, true, false}
 use mathlib.Core.List.{List, [], _∷_, _++_}
 use mathlib.Core.Path.{_≡_, _∙_, sym, refl, ap, ap₂}
 use Prim.Native.Nat.{ℕ, _+_, _*_, _/_, _%_, _≤_}
@@ -10,8 +9,8 @@ use borrow.Author.Tests.{eq-eqb, le-leb, leb-true}
 use lib.Dec.{eqb, leb}
 use lib.ListN.{drop, getD, length}
 use Rattle.times.proofs.TimeWrites.{time-back}
-use Rattle.basis.proofs.Verdicts.{andThen, done-clear, done-value, kept-first, kept-rest, verdict-append}
-use Rattle.basis.specs.Answer.{NotWritable, ServiceFlagsMismatched}
+use Rattle.basis.proofs.Verdicts.{done-clear, done-value, kept-first, kept-rest}
+use Rattle.basis.specs.Answer.{NotWritable}
 use Rattle.basis.specs.Bytes.{byte}
 use Rattle.basis.specs.Check.{Check, check, clear, verdict}
 use Rattle.values.specs.Packet.{captionsId, servicesId, timeCodeId}
@@ -25,7 +24,7 @@ use Rattle.services.specs.Writing.{counted, sectionByte, sectionBytes}
 use Rattle.sections.specs.CcData.{ccCount, ccDataChecks, ccDataSize, handedOut}
 use Rattle.sections.specs.TimeCode.{timeCodeChecks, timeCodeIn}
 use Rattle.svc_section.proofs.SvcInfoAlone.{FlagsOf, alone}
-use Rattle.svc_section.specs.SvcInfo.{sameFlags, svcInfoBytes, svcInfoChecks, svcInfoSize}
+use Rattle.svc_section.specs.SvcInfo.{svcInfoBytes, svcInfoChecks, svcInfoSize}
 use Rattle.packing.specs.Writing.{ccDataBytes}
 use Rattle.basis.proofs.Places.{byte-on, further-on, part-on}
 use Rattle.theorems.specs.RoundTrip.{captionsBack, listBack}
