@@ -13,11 +13,11 @@ use Rattle.basis.proofs.Verdicts.{andThen, done-clear, kept-first, kept-rest}
 use Rattle.basis.specs.Answer.{LengthMismatch, WrongMagic}
 use Rattle.basis.specs.Bytes.{byte}
 use Rattle.basis.specs.Check.{Check, Verdict, check, clear, ifClear, sizeWhen, verdict, when}
-use Rattle.basis.specs.Mask.{under, x0F, xF0}
+use Rattle.basis.specs.Mask.{under, xF0}
 use Rattle.values.specs.Flags.{flagsOf}
 use Rattle.values.specs.Packet.{servicesId}
 use Rattle.values.specs.Rate.{fromId}
-use Rattle.svc_entries.specs.Entries.{countOf, sectionChecks, sectionLength}
+use Rattle.svc_entries.specs.Entries.{sectionChecks, sectionLength}
 use Rattle.services.specs.Section.{listOf, sectionRead}
 use Rattle.services.specs.ServiceList.{empty, listAbsent, listPresent}
 use Rattle.sections.specs.CcData.{ccDataChecks, ccDataSize, handedOut}
@@ -31,7 +31,7 @@ use Rattle.reader.proofs.PacketReads.{closing-of-packet, in-order, svc-info-of-
 use Rattle.reader.specs.Packet.{captionLength, ccDataAt, closingAt, footerAt, packetChecks, shownBy, state, svcInfoAt}
 use Rattle.reader.specs.Reader.{captionsOf}
 use Rattle.altered.proofs.Outside.{Same, before, behind, captions-same, captions-size, closing-same, header-same, section-fits, time-same, time-shown}
-use Rattle.altered.proofs.Spans.{byte-part, bytes-same}
+use Rattle.altered.proofs.Spans.{byte-part, bytes-same, count-at}
 use Rattle.altered.specs.Alteration.{Altered, Put, captionsFrom, mendedFlags, newCaptions, newList, sectionIn}
 use Rattle.basis.specs.declared.answer.Answer.{Answer}
 use Rattle.services.specs.declared.list.ServiceInfo.{ServiceInfo}
@@ -112,11 +112,8 @@ module _ (p q : List ℕ) (a : Altered p q) where
   abbrev at : ℕ
   at = svcInfoAt p
 
-  counted : (d : List ℕ) → countOf (svcInfoBytes d at) ≡ under x0F (byte d (at + 1))
-  counted d = ap (under x0F) (byte-part d at (svcInfoSize d at) 1 (omega arith))
-
   sized : (services : Bool) → flagsIn p .«svc_info» ≡ services → sizeWhen services (svcInfoSize q at) ≡ sizeWhen services (svcInfoSize p at)
-  sized true on = ap sectionLength (sym (counted q) ∙ a .section on .asManyEntries ∙ counted p)
+  sized true on = ap sectionLength (sym (count-at q at) ∙ a .section on .asManyEntries ∙ count-at p at)
   sized false off = refl
 
   closing-at : closingAt q ≡ closingAt p

@@ -4,4 +4,6 @@ pub mod Acceptance
 pub mod Sequences
 pub mod OneHalf
 pub mod Halves
+pub mod PutBytes
+pub mod Mending
 pub mod Examples

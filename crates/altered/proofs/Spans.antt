@@ -7,9 +7,16 @@ use native.Mathlib.Omega.{arith}
 use lib.ListN.{drop, length, length-drop, length-take}
 use lib.Seq.{ext-getD, getD-drop, getD-take}
 use Rattle.basis.specs.Bytes.{byte, part}
+use Rattle.basis.specs.Mask.{under, x0F}
+use Rattle.svc_entries.specs.Entries.{countOf}
+use Rattle.svc_section.specs.SvcInfo.{svcInfoBytes, svcInfoSize}
 
 pub byte-part : (p : List ℕ) (at count i : ℕ) → i < count → byte (part at count p) i ≡ byte p (at + i)
 byte-part p at count i h = getD-take count (drop at p) i 0 h ∙ getD-drop at p i 0
+
+-- the count that a section in a packet has
+pub count-at : (p : List ℕ) (i : ℕ) → countOf (svcInfoBytes p i) ≡ under x0F (byte p (i + 1))
+count-at p i = ap (under x0F) (byte-part p i (svcInfoSize p i) 1 (omega arith))
 
 module _ (p q : List ℕ) where
   pub bytes-same : (at count : ℕ) → part at count q ≡ part at count p

@@ -1,4 +1,5 @@
 pub mod Sequence
 pub mod Alteration
+pub mod Mending
 pub mod Twins
 pub mod Examples

@@ -1,2 +1,3 @@
 pub mod ClosingReads
 pub mod FooterFound
+pub mod Checksums

@@ -2,28 +2,20 @@
 -- Assumes nothing.
 use mathlib.Core.List.{List, [], _∷_, _++_}
 use mathlib.Core.Path.{_≡_, _∙_, sym, ap}
-use Prim.Native.Nat.{ℕ, _+_, _-_, _*_}
+use Prim.Native.Nat.{ℕ, _+_, _*_}
 use native.Mathlib.Nat.{add-zero}
 use native.Mathlib.Omega.{arith}
 use lib.Dec.{eqb}
-use lib.ListN.{drop, length, length-append}
-use lib.Seq.{take-at}
+use lib.ListN.{drop, length}
 use Rattle.basis.proofs.Verdicts.{done-clear}
 use Rattle.basis.specs.Bytes.{byte}
 use Rattle.basis.specs.Check.{clear, verdict}
-use Rattle.values.specs.Checksum.{negative, total}
 use Rattle.values.specs.Packet.{footerId}
 use Rattle.footer.proofs.ClosingReads.{begins, footer-reached, footer-whole}
 use Rattle.footer.specs.Footer.{checksumOf, closingChecks, closingRead}
 use Rattle.packing.specs.Writing.{footerBytes}
 use Rattle.basis.proofs.Places.{byte-on}
 use Rattle.basis.specs.declared.answer.Answer.{Answer}
-
--- all bytes but the last are those that were summed up
-pub checksum-is : (bytes : List ℕ) (last : ℕ) → checksumOf (bytes ++ last ∷ []) ≡ negative (total bytes)
-checksum-is bytes last =
-    ap (λ (xs : List ℕ). negative (total xs))
-    (take-at bytes (last ∷ []) (length (bytes ++ last ∷ []) - 1) (simp (length-append) (omega arith)))
 
 module _ (p : List ℕ) (i sequence sum : ℕ) (h : drop i p ≡ footerBytes sequence ++ sum ∷ []) (size : length p ≡ i + 4) (right : sum ≡ checksumOf p) where
   abbrev bytes : List ℕ

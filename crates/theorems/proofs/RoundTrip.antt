@@ -22,6 +22,7 @@ use Rattle.services.specs.Writing.{counted}
 use Rattle.sections.specs.CcData.{ccDataChecks, ccDataSize, handedOut}
 use Rattle.sections.specs.Header.{flagsIn, headerChecks, rateOf, sequenceIn}
 use Rattle.sections.specs.TimeCode.{timeCodeChecks, timeCodeOf}
+use Rattle.footer.proofs.Checksums.{checksum-is}
 use Rattle.footer.specs.Footer.{checksumOf, closingChecks}
 use Rattle.svc_section.specs.SvcInfo.{svcInfoChecks, svcInfoOf, svcInfoSize}
 use Rattle.reader.proofs.PacketReads.{in-order}
@@ -33,7 +34,7 @@ use Rattle.packing.proofs.Parts.{packet-length, services-length, time-length}
 use Rattle.writer.specs.Writer.{heldTime, packetWritten}
 use Rattle.packing.specs.Writing as Writing
 use Rattle.packing.specs.Writing.{ccDataBytes, flagsOf, footerBytes, headerBytes, packetBytes, packetLength, summedBytes, svcInfoBytes, timeCodeBytes}
-use Rattle.theorems.proofs.FooterBack.{checksum-is, closing-clear}
+use Rattle.theorems.proofs.FooterBack.{closing-clear}
 use Rattle.theorems.proofs.HeaderBack.{flags-back, header-clear, rate-back, sequence-back}
 use Rattle.theorems.proofs.PartsBack.{ServicesHere, TimeHere, services-here, time-here}
 use Rattle.basis.proofs.Places.{further-on}
