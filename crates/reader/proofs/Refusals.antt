@@ -82,7 +82,7 @@ module _ (s : CDPParser) (p buffer : List ℕ) where
 
   -- any other refusal clears rate, time code and sequence
   module _ (refusal : eqb (given .answer .number) 0 ≡ false) (other : eqb (given .answer .number) 11 ≡ false) where
-    refusal-clears : given .parser ≡ cleared s
+    pub refusal-clears : given .parser ≡ cleared s
     unfolding read
     refusal-clears = clears (leb captionRoom (length buffer)) (verdict (packetChecks p)) (length buffer) (captionLength p) (shownBy p) s refusal other
 

@@ -5,3 +5,4 @@ pub mod PartsBack
 pub mod RoundTrip
 pub mod ListBack
 pub mod Cases
+pub mod FirstDemand

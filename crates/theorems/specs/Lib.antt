@@ -1,2 +1,3 @@
+pub mod FirstDemand
 pub mod Cases
 pub mod RoundTrip

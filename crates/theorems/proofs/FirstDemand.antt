@@ -1,0 +1,86 @@
+-- The first demand holds: every answer is that of a verdict, and a broken verdict leaves a buffer as it was.
+-- Assumes nothing.
+use mathlib.Core.Bool.{true, false}
+use mathlib.Core.List.{List, [], _∷_, _++_}
+use mathlib.Core.Path.{_≡_, refl, sym}
+use Prim.Native.Nat.{ℕ}
+use lib.Dec.{eqb, ltb}
+use lib.ListN.{length}
+use Rattle.basis.proofs.Verdicts.{refused-shows}
+use Rattle.basis.specs.Answer as Table
+use Rattle.basis.specs.Check.{Verdict, answer, broken, check, clear, verdict}
+use Rattle.basis.specs.Bytes.{over}
+use Rattle.times.specs.Time as Time
+use Rattle.entries.specs.Entry as Entry
+use Rattle.entries.specs.Writing.{entryBytes, entryCheck, entryWritten, roomCheck, written}
+use Rattle.services.specs.Section as Section
+use Rattle.svc_entries.specs.Entries.{places, sectionChecks, sectionLength}
+use Rattle.services.specs.ServiceList.{countCheck}
+use Rattle.services.specs.Writing.{sectionBytes, sectionWritten, valueAnswer, valueChecks}
+use Rattle.reader.proofs.Refusals as Refusals
+use Rattle.reader.specs.Packet.{captionLength}
+use Rattle.reader.specs.Reader.{read, readChecks}
+use Rattle.packing.proofs.PacketWrites as PacketWrites
+use Rattle.packing.specs.Writing as Writing
+use Rattle.writer.specs.Writer.{setChecks, setServiceInfo}
+use Rattle.theorems.specs.FirstDemand.{FirstDemand, inTable, refuses}
+use Rattle.basis.specs.declared.answer.Answer.{Answer}
+use Rattle.entries.specs.declared.entry.ServiceEntry.{ServiceEntry}
+use Rattle.services.specs.declared.list.ServiceInfo.{ServiceInfo}
+use Rattle.values.specs.declared.framerate.Framerate.{Framerate}
+use Rattle.writer.specs.declared.writer.CDPWriter.{CDPWriter}
+
+in-table : (v : Verdict) (length : ℕ) → inTable (answer v length) ≡ true
+in-table clear length = refl
+in-table (broken (Table.LengthMismatch expected actual)) length = refl
+in-table (broken Table.WrongMagic) length = refl
+in-table (broken Table.UnknownFramerate) length = refl
+in-table (broken Table.InvalidFixedBits) length = refl
+in-table (broken Table.ChecksumFailed) length = refl
+in-table (broken Table.SequenceCountMismatch) length = refl
+in-table (broken Table.ServiceNumberMismatch) length = refl
+in-table (broken Table.InvalidServiceNumber) length = refl
+in-table (broken Table.ServiceFlagsMismatched) length = refl
+in-table (broken Table.WouldOverflow) length = refl
+in-table (broken (Table.BufferTooShort needed given)) length = refl
+in-table (broken Table.NotWritable) length = refl
+in-table (broken Table.WrongCaptionRun) length = refl
+
+-- a writer that is refused leaves the buffer as it was
+left : (v : Verdict) (bytes buffer : List ℕ) → refuses (written v bytes buffer .answer) → written v bytes buffer .buffer ≡ buffer
+left v bytes buffer h = sym (refused-shows (λ (a : Answer) (b : List ℕ). b) v (length bytes) 0 (over 0 bytes buffer) buffer h)
+
+-- the writers' verdicts, room among them
+abbrev packetVerdict : CDPWriter → Framerate → List ℕ → List ℕ → Verdict
+packetVerdict w rate captions buffer =
+    verdict (Writing.packetChecks rate (w .«time_code») (w .«service_info») (length captions) ++ roomCheck (Writing.packetLength (w .«time_code») (w .«service_info») (length captions)) buffer ∷ [])
+
+abbrev sectionVerdict : ServiceInfo → List ℕ → Verdict
+sectionVerdict l buffer = verdict (valueChecks l ++ roomCheck (sectionLength (l .count)) buffer ∷ [])
+
+abbrev entryVerdict : ServiceEntry → List ℕ → Verdict
+entryVerdict e buffer = verdict (entryCheck e ∷ roomCheck 6 buffer ∷ [])
+
+pub first-demand : FirstDemand
+unfolding read Section.sectionRead Entry.entryRead Time.timeRead Time.timeWritten Writing.packetWritten sectionWritten entryWritten valueAnswer setServiceInfo
+first-demand =
+    record {
+      packetRead = λ s p room. in-table (verdict (readChecks p room)) (captionLength p);
+      sectionRead = λ d. in-table (verdict (sectionChecks d)) 0;
+      entryRead = λ bytes. in-table (verdict (Entry.entryChecks bytes)) 0;
+      timeRead = λ hours minutes seconds frames. in-table (verdict (Time.timeChecks hours minutes seconds frames)) 0;
+      packetAnswered = λ w rate captions buffer. in-table (packetVerdict w rate captions buffer) (Writing.packetLength (w .«time_code») (w .«service_info») (length captions));
+      sectionAnswered = λ l buffer. in-table (sectionVerdict l buffer) (length (sectionBytes l));
+      entryAnswered = λ e buffer. in-table (entryVerdict e buffer) 6;
+      timeAnswered = λ t. in-table (verdict (Time.timeWriteChecks t)) 0;
+      listAdded = λ l e. in-table (verdict (check (ltb (l .count) places) Table.WouldOverflow ∷ [])) 0;
+      listMeasured = λ l. in-table (verdict (countCheck l ∷ [])) (sectionLength (l .count));
+      listTested = λ l. in-table (verdict (valueChecks l)) 0;
+      listSet = λ w services. in-table (verdict (setChecks services)) 0;
+      readerWrites = Refusals.refusal-writes-nothing;
+      packetWrites = λ w rate captions buffer. PacketWrites.refusal-writes-nothing rate (w .sequence) (w .«time_code») (w .«service_info») captions buffer;
+      sectionWrites = λ l buffer. left (sectionVerdict l buffer) (sectionBytes l) buffer;
+      entryWrites = λ e buffer. left (entryVerdict e buffer) (entryBytes e) buffer;
+      readerClears = Refusals.refusal-clears;
+      readerStays = Refusals.eleven-changes-nothing;
+    }

@@ -1,0 +1,62 @@
+-- The first demand: an answer of the table for everything, what a refusal writes, and what a reader's refusal leaves.
+use mathlib.Core.Bool.{Bool, true, false, cond, _&&_, _||_}
+use mathlib.Core.List.{List}
+use mathlib.Core.Path.{_≡_}
+use Prim.Native.Nat.{ℕ}
+use lib.Dec.{eqb, leb}
+use lib.ListN.{length}
+use Rattle.times.specs.Time as Time
+use Rattle.entries.specs.Entry as Entry
+use Rattle.entries.specs.Writing as EntryWriting
+use Rattle.services.specs.Section as Section
+use Rattle.services.specs.ServiceList as ServiceList
+use Rattle.services.specs.Writing as SectionWriting
+use Rattle.reader.specs.Reader.{bufferAfter, cleared, read}
+use Rattle.writer.specs.Writer.{packetWritten, setServiceInfo}
+use Rattle.basis.specs.declared.answer.Answer.{Answer}
+use Rattle.entries.specs.declared.entry.ServiceEntry.{ServiceEntry}
+use Rattle.reader.specs.declared.parser.CDPParser.{CDPParser}
+use Rattle.services.specs.declared.list.MaybeServiceInfo.{MaybeServiceInfo}
+use Rattle.services.specs.declared.list.ServiceInfo.{ServiceInfo}
+use Rattle.times.specs.declared.time_code.TimeCode.{TimeCode}
+use Rattle.values.specs.declared.framerate.Framerate.{Framerate}
+use Rattle.writer.specs.declared.writer.CDPWriter.{CDPWriter}
+
+-- number and both values stand in the table of answers
+abbrev pub inTable : Answer → Bool
+inTable a =
+    cond (eqb (a .number) 0) (eqb (a .second) 0)
+    (cond (eqb (a .number) 1 || eqb (a .number) 11) true
+    (cond (eqb (a .number) 10) (eqb (a .first) 1 && eqb (a .second) 0)
+    (leb (a .number) 13 && (eqb (a .first) 0 && eqb (a .second) 0))))
+
+abbrev pub refuses : Answer → Type 0
+refuses a = eqb (a .number) 0 ≡ false
+
+pub record FirstDemand : Type 0 where
+  -- whatever is read, whatever the state and however many caption bytes are lent
+  pub packetRead : (s : CDPParser) (p : List ℕ) (room : ℕ) → inTable (read s p room .answer) ≡ true
+  pub sectionRead : (d : List ℕ) → inTable (Section.sectionRead d .answer) ≡ true
+  pub entryRead : (bytes : List ℕ) → inTable (Entry.entryRead bytes .answer) ≡ true
+  pub timeRead : (hours minutes seconds frames : ℕ) → inTable (Time.timeRead hours minutes seconds frames .answer) ≡ true
+  -- whatever is to be written, or held, and whatever buffer is lent
+  pub packetAnswered : (w : CDPWriter) (rate : Framerate) (captions buffer : List ℕ) → inTable (packetWritten w rate captions buffer .answer) ≡ true
+  pub sectionAnswered : (l : ServiceInfo) (buffer : List ℕ) → inTable (SectionWriting.sectionWritten l buffer .answer) ≡ true
+  pub entryAnswered : (e : ServiceEntry) (buffer : List ℕ) → inTable (EntryWriting.entryWritten e buffer .answer) ≡ true
+  pub timeAnswered : (t : TimeCode) → inTable (Time.timeWritten t .answer) ≡ true
+  pub listAdded : (l : ServiceInfo) (e : ServiceEntry) → inTable (ServiceList.added l e .answer) ≡ true
+  pub listMeasured : (l : ServiceInfo) → inTable (ServiceList.byteLen l) ≡ true
+  pub listTested : (l : ServiceInfo) → inTable (SectionWriting.valueAnswer l) ≡ true
+  pub listSet : (w : CDPWriter) (services : MaybeServiceInfo) → inTable (setServiceInfo w services .answer) ≡ true
+  -- a refusal writes no byte of a lent buffer
+  pub readerWrites : (s : CDPParser) (p buffer : List ℕ) → refuses (read s p (length buffer) .answer) → bufferAfter p buffer ≡ buffer
+  pub packetWrites : (w : CDPWriter) (rate : Framerate) (captions buffer : List ℕ)
+      → refuses (packetWritten w rate captions buffer .answer) → packetWritten w rate captions buffer .buffer ≡ buffer
+  pub sectionWrites : (l : ServiceInfo) (buffer : List ℕ)
+      → refuses (SectionWriting.sectionWritten l buffer .answer) → SectionWriting.sectionWritten l buffer .buffer ≡ buffer
+  pub entryWrites : (e : ServiceEntry) (buffer : List ℕ)
+      → refuses (EntryWriting.entryWritten e buffer .answer) → EntryWriting.entryWritten e buffer .buffer ≡ buffer
+  -- a reader's refusal clears rate, time code and sequence and keeps the list; 11 changes nothing
+  pub readerClears : (s : CDPParser) (p buffer : List ℕ) → refuses (read s p (length buffer) .answer)
+      → eqb (read s p (length buffer) .answer .number) 11 ≡ false → read s p (length buffer) .parser ≡ cleared s
+  pub readerStays : (s : CDPParser) (p buffer : List ℕ) → read s p (length buffer) .answer .number ≡ 11 → read s p (length buffer) .parser ≡ s
