@@ -9,10 +9,6 @@ pub fn four(digest: u64, n: u64) -> u64 {
     two(two(digest, n / 65536), n)
 }
 
-pub fn bit(digest: u64, on: bool) -> u64 {
-    feed(digest, if on { 1 } else { 0 })
-}
-
 pub fn all(first: u64, bytes: &[u8]) -> u64 {
     let mut digest = first;
     for k in 0..bytes.len() {

@@ -5,10 +5,8 @@ use crate::shown;
 use basis::Answer;
 use reader::CDPParser;
 use report::feed;
+use report::fill;
 use std::num::wrapping_add_u64;
-
-// What the caption buffer holds before each packet, so that it shows what was written.
-const UNTOUCHED: u8 = 0xA5;
 
 // The digest over all packets read, and how many of them were accepted.
 pub struct Tally {
@@ -34,12 +32,6 @@ pub fn packet(tally: Tally, held: CDPParser, packet: &[u8], captions: &mut [u8])
     Tally {
         digest: all(state, captions),
         accepted: counted(tally.accepted, answer),
-    }
-}
-
-fn fill(captions: &mut [u8]) {
-    for k in 0..captions.len() {
-        captions[k] = UNTOUCHED;
     }
 }
 

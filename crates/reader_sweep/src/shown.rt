@@ -1,10 +1,10 @@
 // What a reader shows, fed to a digest. What is absent is fed too, since it has to be zeros.
-use crate::digest::bit;
 use crate::digest::four;
 use crate::digest::two;
 use crate::list;
 use reader::CDPParser;
 use report::feed;
+use report::flag_fed;
 use times::MaybeTimeCode;
 use values::MaybeFramerate;
 
@@ -20,17 +20,17 @@ pub fn reader(digest: u64, shown: CDPParser) -> u64 {
 
 fn rate(digest: u64, shown: MaybeFramerate) -> u64 {
     let framerate = shown.framerate;
-    let present = bit(digest, shown.present);
+    let present = flag_fed(digest, shown.present);
     let id = feed(present, framerate.id);
     four(four(id, framerate.numer as u64), framerate.denom as u64)
 }
 
 fn time(digest: u64, shown: MaybeTimeCode) -> u64 {
     let time = shown.time_code;
-    let present = bit(digest, shown.present);
+    let present = flag_fed(digest, shown.present);
     let hours = feed(present, time.hours);
     let minutes = feed(hours, time.minutes);
     let seconds = feed(minutes, time.seconds);
     let frames = feed(seconds, time.frames);
-    bit(bit(frames, time.field), time.drop_frame)
+    flag_fed(flag_fed(frames, time.field), time.drop_frame)
 }

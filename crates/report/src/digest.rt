@@ -1,10 +1,50 @@
 // A number for a block of values, the same on both sides.
 ghost use mathlib.Core.Path.{_≡_};
-ghost use Prim.Native.Nat.{_+_, _*_, _%_};
+ghost use Rattle.report.specs.Digest as Digest;
+use entries::FieldOrService;
+use entries::ServiceEntry;
 
-// The one added makes a zero count, so that a block of zeros shows its length.
 pub fn feed(digest: u64, byte: u8) -> u64
-    ensures { λ r. ⌜ r ≡ (digest % 4294967296 * 16777619 + byte + 1) % 4294967296 ⌝ }
+    ensures { λ r. ⌜ r ≡ Digest.fed digest byte ⌝ }
 {
     (digest % 0x1_0000_0000 * 16777619 + byte as u64 + 1) % 0x1_0000_0000
+}
+
+pub fn flag_fed(digest: u64, on: bool) -> u64
+    ensures { λ r. ⌜ r ≡ Digest.flagFed digest on ⌝ }
+{
+    if on { feed(digest, 1) } else { feed(digest, 0) }
+}
+
+// The language, then the service.
+pub fn entry_fed(digest: u64, entry: ServiceEntry) -> u64
+    ensures { λ r. ⌜ r ≡ Digest.entryFed digest entry ⌝ }
+{
+    let language = entry.language;
+    let service = entry.service;
+    let first = feed(digest, language[0]);
+    let second = feed(first, language[1]);
+    let third = feed(second, language[2]);
+    service_fed(third, service)
+}
+
+// 0 and a field, or 1 and a digital service.
+fn service_fed(digest: u64, service: FieldOrService) -> u64
+    ensures { λ r. ⌜ r ≡ Digest.serviceFed digest service ⌝ }
+{
+    match service {
+        FieldOrService::Field(first) => {
+            let field = feed(digest, 0);
+            if first {
+                feed(field, 1)
+            } else {
+                feed(field, 2)
+            }
+        }
+        FieldOrService::Service(digital) => {
+            let number = feed(feed(digest, 1), digital.service);
+            let easy = flag_fed(number, digital.easy_reader);
+            flag_fed(easy, digital.wide_aspect_ratio)
+        }
+    }
 }

@@ -1,4 +1,8 @@
-// What the sweeps share.
+// What the programs that are compared with the Rust share.
 mod digest;
+mod lent;
 
+pub use digest::entry_fed;
 pub use digest::feed;
+pub use digest::flag_fed;
+pub use lent::fill;

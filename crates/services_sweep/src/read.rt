@@ -1,7 +1,8 @@
 // What a reader answers, fed to a digest.
 use crate::good;
+use report::entry_fed;
 use report::feed;
-use services::FieldOrService;
+use report::flag_fed;
 use services::ServiceEntry;
 use services::ServiceInfo;
 
@@ -75,9 +76,9 @@ fn section(digest: u64, bytes: &[u8]) -> u64 {
 }
 
 fn list_fed(digest: u64, list: ServiceInfo) -> u64 {
-    let start = feed(digest, bit(list.start));
-    let change = feed(start, bit(list.change));
-    let complete = feed(change, bit(list.complete));
+    let start = flag_fed(digest, list.start);
+    let change = flag_fed(start, list.change);
+    let complete = flag_fed(change, list.complete);
     let count = feed(complete, (list.count % 256) as u8);
     let services = list.services;
     entries_fed(count, services, list.count)
@@ -93,23 +94,4 @@ fn entries_fed(first: u64, services: [ServiceEntry; 15], count: usize) -> u64 {
         }
     }
     digest
-}
-
-// The language, then 1 and a digital service, or 0 and a field.
-fn entry_fed(digest: u64, entry: ServiceEntry) -> u64 {
-    let language = entry.language;
-    let service = entry.service;
-    let fed = feed(feed(feed(digest, language[0]), language[1]), language[2]);
-    match service {
-        FieldOrService::Field(first) => feed(feed(fed, 0), if first { 1 } else { 2 }),
-        FieldOrService::Service(digital) => {
-            let number = feed(feed(fed, 1), digital.service);
-            let easy = feed(number, bit(digital.easy_reader));
-            feed(easy, bit(digital.wide_aspect_ratio))
-        }
-    }
-}
-
-fn bit(on: bool) -> u8 {
-    if on { 1 } else { 0 }
 }

@@ -7,18 +7,9 @@ use crate::words::NumberWord;
 // The most that a line may lend.
 const MOST: u64 = 4096;
 
-// What they hold before the call, so that they show what was written.
-const UNTOUCHED: u8 = 0xA5;
-
 // How many a line lends is its first word behind the letter.
 pub fn room(line: &[u8]) -> NumberWord {
     words::number(line, words::operands(line), MOST)
-}
-
-pub fn fill(lent: &mut [u8]) {
-    for k in 0..lent.len() {
-        lent[k] = UNTOUCHED;
-    }
 }
 
 // All of them are printed, written or not.

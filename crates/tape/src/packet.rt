@@ -4,6 +4,7 @@ use crate::operation::State;
 use crate::print::word;
 use crate::show;
 use crate::words;
+use report::fill;
 
 pub fn read(line: &[u8], given: &mut [u8], lent: &mut [u8], out: &mut [u8], s: State) -> State {
     let lends = lent::room(line);
@@ -23,7 +24,7 @@ pub fn read(line: &[u8], given: &mut [u8], lent: &mut [u8], out: &mut [u8], s: S
 }
 
 fn read_into(packet: &[u8], lent: &mut [u8], out: &mut [u8], s: State) -> State {
-    lent::fill(lent);
+    fill(lent);
     let before = s.parser;
     let read = before.parse(packet, lent);
     let answer = read.answer;

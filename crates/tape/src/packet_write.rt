@@ -5,6 +5,7 @@ use crate::operation::malformed;
 use crate::print::word;
 use crate::words;
 use crate::write::written;
+use report::fill;
 use services::MaybeServiceInfo;
 use services::ServiceEntry;
 use services::ServiceInfo;
@@ -88,7 +89,7 @@ fn write_into(
     out: &mut [u8],
     at: usize,
 ) -> usize {
-    lent::fill(lent);
+    fill(lent);
     let answer = writer.write(framerate, captions, lent);
     let letter = word(out, at, b"W ");
     written(answer, lent, out, letter)

@@ -6,6 +6,7 @@ use crate::print::word;
 use crate::show;
 use crate::words;
 use basis::Answer;
+use report::fill;
 use services::ServiceEntry;
 use services::ServiceInfo;
 
@@ -24,7 +25,7 @@ pub fn section(line: &[u8], lent: &mut [u8], out: &mut [u8], at: usize) -> usize
 }
 
 fn section_into(list: ServiceInfo, lent: &mut [u8], out: &mut [u8], at: usize) -> usize {
-    lent::fill(lent);
+    fill(lent);
     let answer = list.write_into(lent);
     let letter = word(out, at, b"L ");
     written(answer, lent, out, letter)
@@ -45,7 +46,7 @@ pub fn entry(line: &[u8], lent: &mut [u8], out: &mut [u8], at: usize) -> usize {
 }
 
 fn entry_into(entry: ServiceEntry, lent: &mut [u8], out: &mut [u8], at: usize) -> usize {
-    lent::fill(lent);
+    fill(lent);
     let answer = entry.write_into(lent);
     let letter = word(out, at, b"N ");
     written(answer, lent, out, letter)
