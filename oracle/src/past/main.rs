@@ -1,5 +1,6 @@
-//! What the Rust writes past the limits at which the port answers 12, and what its own reader makes of it.
+//! What the Rust writes past the limits at which the port answers 12 or 13, and what its own reader makes of it.
 
+use cdp_types::cea708_types::DTVCCPacket;
 use cdp_types::{
     CDPParser, CDPWriter, DigitalServiceEntry, FieldOrService, Framerate, ServiceEntry,
     ServiceInfo, TimeCode,
@@ -10,20 +11,39 @@ fn hex(bytes: &[u8]) -> String {
     digits.join(" ")
 }
 
+fn packet(writer: &mut CDPWriter) -> Vec<u8> {
+    let mut packet = Vec::new();
+    let rate = Framerate::from_id(3).expect("3 is a rate");
+    writer.write(rate, &mut packet).expect("a vector takes all");
+    packet
+}
+
 /// A packet with a time code and nothing else: its four bytes, and what is read back.
 fn time(name: &str, [hours, minutes, seconds, frames]: [u8; 4]) {
     let time = TimeCode::new(hours, minutes, seconds, frames, false, false);
     let mut writer = CDPWriter::new();
     writer.set_time_code(Some(time));
-    let mut packet = Vec::new();
-    let rate = Framerate::from_id(3).expect("3 is a rate");
-    writer.write(rate, &mut packet).expect("a vector takes all");
+    let packet = packet(&mut writer);
     let mut reader = CDPParser::new();
     let result = reader.parse(&packet).map(|()| reader.time_code());
     println!(
         "{}: writes {}, reads {:?}",
         name,
         hex(&packet[8..12]),
+        result
+    );
+}
+
+/// A packet with a caption run, which the stand-in writes as it is given: its id and count, and what is read back.
+fn captions(length: usize) {
+    let mut writer = CDPWriter::new();
+    writer.push_packet(DTVCCPacket(vec![0x5A; length]));
+    let packet = packet(&mut writer);
+    let result = CDPParser::new().parse(&packet);
+    println!(
+        "captions of {} bytes: writes {}, reads {:?}",
+        length,
+        hex(&packet[7..9]),
         result
     );
 }
@@ -61,4 +81,6 @@ fn main() {
     for number in [0, 64, 65, 129] {
         service(number);
     }
+    captions(4);
+    captions(96);
 }
