@@ -105,6 +105,11 @@ module _ (d : List ℕ) (at : ℕ) where
             let same : namedBy (byte d at) ≡ numberOf (entryOf (sixBehind d at) .service) = rw whole at h in
             whole ∙ rw (← last-check) (simp (eq-eqb _ _ same))
 
+-- a whole entry at a place is what it holds
+read-clear : (d : List ℕ) (at : ℕ) → eqb (readAt d at .answer .number) 0 ≡ true → readAt d at .entry ≡ entryOf (sixBehind d at)
+unfolding readAt
+read-clear d at h = ap (λ (v : Verdict). shown v (entryOf (sixBehind d at)) .entry) (done-clear (verdict (checksAt d at)) 0 h)
+
 -- the entries one after the other: what the first k hold, and what is left to test
 unfoldable pub firstRead : List ℕ → ℕ → List ServiceEntry
 firstRead d k = filled (entriesOf d 2 k)
@@ -154,6 +159,10 @@ module _ (d : List ℕ) (k : ℕ) where
       ∙ ap filled (sym (entries-more d 2 k))
       ∙ ap (λ (n : ℕ). filled (entriesOf d 2 n)) (sym (add-one k))
 
+  pub read-more : k < 15 → eqb (readAt d (2 + 7 * k) .answer .number) 0 ≡ true
+      → set (firstRead d k) k (readAt d (2 + 7 * k) .entry) ≡ firstRead d (k + 1)
+  read-more h r = rw (read-clear d (2 + 7 * k) r) (first-more h)
+
   pub first-all : k ≡ byte d 1 % 16 → firstRead d k ≡ filled (entriesOf d 2 (countOf d))
   unfolding firstRead
   first-all h =
@@ -191,21 +200,11 @@ module _ (d : List ℕ) (k count : ℕ) where
 abbrev shownEntries : Verdict → List ServiceEntry → EntriesRead
 shownEntries v services = record { answer = answer v 0; services = ifClear v services fillers }
 
-none-shown : (v : Verdict) (services : List ServiceEntry) → eqb (answer v 0 .number) 0 ≡ false
-    → refusedEntries (answer v 0) ≡ shownEntries v services
-none-shown clear services h = absurd (true≢false h)
-none-shown (broken why) services h = refl
-
--- a section's answer decides whether it shows its entries
-module _ (d : List ℕ) where
-  pub none-held : eqb (entriesRead d .answer .number) 0 ≡ false → refusedEntries (entriesRead d .answer) ≡ entriesRead d
-  unfolding entriesRead
-  none-held h = none-shown (verdict (sectionChecks d)) (filled (entriesOf d 2 (countOf d))) h
-
-  pub all-held : eqb (entriesRead d .answer .number) 0 ≡ true
-      → _≡_ {A = EntriesRead} (record { answer = entriesRead d .answer; services = filled (entriesOf d 2 (countOf d)) }) (entriesRead d)
-  unfolding entriesRead
-  all-held h = rw (done-clear (verdict (sectionChecks d)) 0 h)
+-- a refusal, whatever is tested after it, shows no entry
+none-shown : (v w : Verdict) (services : List ServiceEntry) → eqb (answer v 0 .number) 0 ≡ false
+    → refusedEntries (answer v 0) ≡ shownEntries (andThen v w) services
+none-shown clear w services h = absurd (true≢false h)
+none-shown (broken why) w services h = refl
 
 -- S1 to S4, where one of them is the first that fails
 module _ (d : List ℕ) where
@@ -243,15 +242,23 @@ module _ (d : List ℕ) (header : ℕ) (framed : Framed d header) where
       let fixed : byte d 1 / 128 % 2 ≡ 1 = rw (framed .first) (framed .fixed) in
       simp (le-leb _ _ two, eq-eqb _ _ (framed .id), eq-eqb _ _ fixed, count-is, eq-eqb _ _ (framed .size)) (left-first d 0 (header % 16))
 
+  services-are : firstRead d (header % 16) ≡ filled (entriesOf d 2 (countOf d))
+  unfolding firstRead
+  services-are = rw count-is
+
   pub section-refused : (k : ℕ) → k < header % 16 → left d 0 (header % 16) ≡ left d k (header % 16)
       → eqb (readAt d (2 + 7 * k) .answer .number) 0 ≡ false
-      → readAt d (2 + 7 * k) .answer ≡ entriesRead d .answer
+      → refusedEntries (readAt d (2 + 7 * k) .answer) ≡ entriesRead d
   unfolding entriesRead readAt
   section-refused k h so-far r =
-      ap (λ (v : Verdict). answer v 0)
-      (sym (refused-stays (verdict (checksAt d (2 + 7 * k))) (left d (k + 1) (header % 16)) 0 r)
-      ∙ sym (frame-kept ∙ so-far ∙ left-step d k (header % 16) h))
+      let services : List ServiceEntry = filled (entriesOf d 2 (countOf d)) in
+      none-shown (verdict (checksAt d (2 + 7 * k))) (left d (k + 1) (header % 16)) services r
+      ∙ ap (λ (v : Verdict). shownEntries v services) (sym (frame-kept ∙ so-far ∙ left-step d k (header % 16) h))
 
-  pub section-done : (k : ℕ) → k ≡ header % 16 → left d 0 (header % 16) ≡ left d k (header % 16) → done 0 ≡ entriesRead d .answer
+  pub section-whole : (k : ℕ) → k ≡ header % 16 → left d 0 (header % 16) ≡ left d k (header % 16)
+      → _≡_ {A = EntriesRead} (record { answer = done 0; services = firstRead d k }) (entriesRead d)
   unfolding entriesRead
-  section-done k h so-far = ap (λ (v : Verdict). answer v 0) (sym (frame-kept ∙ so-far ∙ left-none d k (header % 16) (omega arith)))
+  section-whole k h so-far =
+      rw (h, services-are)
+      (ap (λ (v : Verdict). shownEntries v (filled (entriesOf d 2 (countOf d))))
+      (sym (frame-kept ∙ so-far ∙ left-none d k (header % 16) (omega arith))))

@@ -55,28 +55,29 @@ pub fn read_entries(data: &[u8]) -> EntriesRead
     if size != expected {
         return EntriesRead::refused(Answer::length_mismatch(expected, size));
     }
-    let answer = entries_answer(data, header);
-    if !answer.is_done() {
-        return EntriesRead::refused(answer);
-    }
-    let services = entries_of(data);
-    EntriesRead { answer, services }
+    entries(data, header)
 }
 
-// Tests the entries behind the section's two bytes, first to last.
-fn entries_answer(data: &[u8], header: u8) -> Answer
+// Reads the entries behind the section's two bytes, first to last.
+fn entries(data: &[u8], header: u8) -> EntriesRead
     requires { ⌜ Entries.Framed (now «data») header ⌝ }
-    ensures { λ r. ⌜ r ≡ Entries.entriesRead (now («data» .entry)) .answer ⌝ }
+    ensures { λ r. ⌜ r ≡ Entries.entriesRead (now («data» .entry)) ⌝ }
 {
     let count = (header % 16) as usize;
+    let mut services = fillers();
     for k in 0..count {
         let read = entry_at(data, 2 + 7 * k);
         let answer = read.answer;
         if !answer.is_done() {
-            return answer;
+            return EntriesRead::refused(answer);
         }
+        let entry = read.entry;
+        services[k] = entry;
     }
-    Answer::done(0)
+    EntriesRead {
+        answer: Answer::done(0),
+        services,
+    }
 }
 
 // The entries that a section's bytes hold, whatever their fixed bits are; bytes past the end are zeros.

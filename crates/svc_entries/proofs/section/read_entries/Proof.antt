@@ -1,9 +1,8 @@
 -- `svc_entries::read_entries` is rules S1 to S4, and then the entries.
 -- Assumes nothing.
-use mathlib.Core.Path.{_∙_, sym}
+use mathlib.Core.Path.{_∙_}
 use native.Mathlib.Omega.{arith}
-use Rattle.svc_entries.proofs.SectionReads.{too-short, other-id, no-80, other-size, none-held, all-held}
-use borrow.Author.Tests.{not-true, not-false}
+use Rattle.svc_entries.proofs.SectionReads.{too-short, other-id, no-80, other-size}
 use borrow.Author.Needs.{needs}
 use Rattle.svc_entries.proofs.section.read_entries.Statement.{statement}
 use Rattle.svc_entries.proofs.section.read_entries.Tie as tie
@@ -56,27 +55,11 @@ returns-4 c =
     c .refused4 .ensures
     ∙ rw (c .before .length-mismatch2 .ensures) (other-size _ (omega arith) (s .before .before .if2 .left) (s .if3 .left) (λ h. omega arith))
 
-entries-answer-requires : tie.Need-entries-answer-requires
-entries-answer-requires c κs = search needs
-
-is-done-requires : tie.Need-is-done-requires
-is-done-requires c κs = search needs
-
-refused-requires-5 : tie.Need-refused-requires-5
-refused-requires-5 c κs = search needs
+entries-requires : tie.Need-entries-requires
+entries-requires c κs = search needs
 
 returns-5 : tie.Need-returns-5
-returns-5 c =
-    let e = c .before .before .before .entries-answer .ensures in
-    c .refused5 .ensures ∙ rw e (none-held _ (rw e at (sym (c .before .before .is-done .ensures) ∙ not-true _ (c .before .if5 .taken))))
-
-entries-of-requires : tie.Need-entries-of-requires
-entries-of-requires c κs = search needs
-
-returns-6 : tie.Need-returns-6
-returns-6 c =
-    let e = c .before .before .before .entries-answer .ensures in
-    rw (c .entries-of .ensures, e) (all-held _ (rw e at (sym (c .before .before .is-done .ensures) ∙ not-false _ (c .before .if5 .left))))
+returns-5 c = search needs
 
 pub read-entries-spec : {M : Type 1} → statement M
 read-entries-spec =
@@ -97,9 +80,5 @@ read-entries-spec =
     length-mismatch-requires-2
     refused-requires-4
     returns-4
-    entries-answer-requires
-    is-done-requires
-    refused-requires-5
-    returns-5
-    entries-of-requires
-    returns-6)
+    entries-requires
+    returns-5)
