@@ -32,7 +32,7 @@ impl ServiceEntryRead {
 impl ServiceEntry {
     // What stands in a list's places past its count: no language, field 1.
     pub const FILLER: Self = Self {
-        language: [0; 3],
+        language: [0, 0, 0],
         service: FieldOrService::Field(true),
     };
 
@@ -41,6 +41,16 @@ impl ServiceEntry {
         ensures { λ r. ⌜ r ≡ Service.entry language service ⌝ }
     {
         Self { language, service }
+    }
+
+    // What the six bytes hold, whatever their fixed bits are.
+    pub fn of_bytes(bytes: [u8; 6]) -> Self
+        ensures { λ r. ⌜ r ≡ Entry.entryOf bytes ⌝ }
+    {
+        Self {
+            language: [bytes[0], bytes[1], bytes[2]],
+            service: service_of(bytes[3], bytes[4]),
+        }
     }
 
     // Reads the six bytes. Number 0 is answered before bytes 4 and 5 are looked at.
@@ -74,10 +84,7 @@ impl ServiceEntry {
         }
         ServiceEntryRead {
             answer: Answer::done(0),
-            entry: Self {
-                language: [bytes[0], bytes[1], bytes[2]],
-                service: service_of(kind, flags),
-            },
+            entry: Self::of_bytes(bytes),
         }
     }
 }

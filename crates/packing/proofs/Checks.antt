@@ -9,11 +9,11 @@ use native.Mathlib.Omega.{arith}
 use borrow.Author.Tests.{eq-eqb, ne-eqb, le-leb, lt-leb, leb-true, leb-false, eqb-true}
 use lib.Dec.{eqb, leb}
 use Rattle.basis.proofs.Bools.{and-left, and-right}
-use Rattle.values.proofs.Rates.{above-table}
+use Rattle.values.proofs.Rates.{no-row}
 use Rattle.basis.proofs.Verdicts.{and-first, and-second, andThen, done-clear, done-shows, kept-first, kept-rest, refused-shows, refused-stays, verdict-append}
 use Rattle.basis.specs.Answer.{UnknownFramerate, WrongCaptionRun, done, refused}
 use Rattle.basis.specs.Check.{Check, Verdict, answer, check, clear, sizeWhen, verdict, when}
-use Rattle.values.specs.Rate.{fromId, known}
+use Rattle.values.specs.Rate.{fromId, known, noRate}
 use Rattle.times.specs.Time.{timeWriteChecks, timeWritten}
 use Rattle.services.proofs.SectionWrites.{value-length}
 use Rattle.svc_entries.specs.Entries.{sectionLength}
@@ -118,10 +118,14 @@ sizes t s time services te se timed served =
       services-few = svc-info-most services right;
     }
 
+above-eight : (id : ℕ) → 8 < id → noRate ≡ fromId id
+above-eight id h =
+    no-row id (λ e. omega arith) (λ e. omega arith) (λ e. omega arith) (λ e. omega arith) (λ e. omega arith) (λ e. omega arith) (λ e. omega arith) (λ e. omega arith)
+
 -- an id that names a rate is 8 at most
 named-id : (id : ℕ) (small : Bool) → leb id 8 ≡ small → fromId id .present ≡ true → id ≤ 8
 named-id id true e h = leb-true _ _ e
-named-id id false e h = absurd (false≢true (ap (λ (r : MaybeFramerate). r .present) (above-table id (leb-false _ _ e)) ∙ h))
+named-id id false e h = absurd (false≢true (ap (λ (r : MaybeFramerate). r .present) (above-eight id (leb-false _ _ e)) ∙ h))
 
 pub known-id : (rate : Framerate) → known rate ≡ true → rate .id ≤ 8
 known-id rate h = named-id (rate .id) (leb (rate .id) 8) refl (and-left _ _ h)

@@ -21,9 +21,11 @@ use Rattle.sections.specs.CcData.{ccDataChecks, ccDataRead, ccDataSize}
 use Rattle.footer.specs.Footer.{closingChecks, closingRead}
 use Rattle.sections.specs.Header.{flagsIn, headerChecks, headerRead, rateOf, sequenceIn}
 use Rattle.sections.specs.Section.{sizeCheck}
-use Rattle.svc_section.specs.SvcInfo.{svcInfoChecks, svcInfoOf, svcInfoRead, svcInfoSize}
+use Rattle.svc_section.specs.SvcInfo.{svcInfoChecks, svcInfoOf, svcInfoRead, svcInfoShown, svcInfoSize}
+use Rattle.svc_section.proofs.SvcInfoReads.{shown-where-clear}
 use Rattle.sections.specs.TimeCode.{timeCodeChecks, timeCodeOf, timeCodeRead}
-use Rattle.reader.specs.Packet.{captionLength, ccDataAt, closingAt, fresh, packetChecks, packetRead, refusedPacket, shownBy, state, svcInfoAt}
+use Rattle.reader.specs.Packet.{captionLength, ccDataAt, checkedShown, closingAt, fresh, packetChecks, packetRead, refusedPacket, shownBy, state, svcInfoAt}
+use Rattle.reader.specs.declared.checked.Checked.{Checked}
 use Rattle.reader.specs.declared.packet.PacketRead.{PacketRead}
 use Rattle.reader.specs.declared.parser.CDPParser.{CDPParser}
 use Rattle.sections.specs.declared.header.Header.{Header}
@@ -39,6 +41,11 @@ given-refused : (v : Verdict) (k length : ℕ) (s : CDPParser) (at : ℕ)
     → eqb (answer v k .number) 0 ≡ false → refusedPacket (answer v k) ≡ given v length s at
 given-refused clear k length s at h = absurd (true≢false h)
 given-refused (broken why) k length s at h = refl
+
+-- a refusal says nothing of what an accepted packet holds
+pub refuses : (p : List ℕ) (r : Checked) (a : Answer) → r .answer ≡ a → eqb (a .number) 0 ≡ false → refusedPacket a ≡ packetRead p
+    → (r .answer ≡ packetRead p .answer) × (eqb (r .answer .number) 0 ≡ true → r ≡ checkedShown p)
+refuses p r a e wrong h = (e ∙ ap (λ (q : PacketRead). q .answer) h, λ right. absurd (true≢false (sym right ∙ rw e wrong)))
 
 -- five lists of checks, one after the other
 five-parts : (a b c d e : List Check)
@@ -244,6 +251,24 @@ module _ (p : List ℕ) where
 
   pub closing-of-packet : verdict (packetChecks p) ≡ clear → closing ≡ clear
   closing-of-packet h = and-second svcInfo _ (and-second ccData _ (and-second timeCode _ (and-second header _ (sym in-order ∙ h))))
+
+  -- a packet's answer decides what it shows
+  pub none-shown : eqb (packetRead p .answer .number) 0 ≡ false → refusedPacket (packetRead p .answer) ≡ packetRead p
+  unfolding packetRead
+  none-shown h = given-refused (verdict (packetChecks p)) (captionLength p) (captionLength p) (shownBy p) (ccDataAt p) h
+
+  pub all-shown : eqb (packetRead p .answer .number) 0 ≡ true
+      → _≡_ {A = PacketRead}
+      (record {
+        answer = done (captionLength p);
+        shown = state (rateOf p) (timeCodeOf p (flagsIn p .«time_code») 7) (sequenceIn p) (svcInfoShown p (flagsIn p) (svcInfoAt p));
+        «cc_data_at» = ccDataAt p;
+      })
+      (packetRead p)
+  unfolding packetRead shownBy
+  all-shown h =
+      let v : verdict (packetChecks p) ≡ clear = done-clear (verdict (packetChecks p)) (captionLength p) h in
+      rw (v, shown-where-clear p (flagsIn p) (svcInfoAt p) (svc-info-of-packet v))
 
   -- the places fit a byte
   pub cc-data-near : ccDataAt p ≤ 12

@@ -9,14 +9,17 @@ use borrow.Author.Tests.{le-leb, lt-leb, lt-ltb}
 use lib.Dec.{eqb, ltb}
 use lib.ListN.{length}
 use Rattle.basis.proofs.Verdicts.{done-clear, refused-shows, when-there}
-use Rattle.basis.specs.Answer.{BufferTooShort, refused}
+use Rattle.basis.specs.Answer.{BufferTooShort, done, refused}
 use Rattle.basis.specs.Bytes.{over}
 use Rattle.basis.specs.Check.{Verdict, answer, clear, ifClear, sizeWhen, verdict}
 use Rattle.sections.proofs.CcDataReads.{captions-there, handed-long, handed-over, nothing-out}
 use Rattle.sections.specs.CcData.{ccDataChecks, ccDataSize, handOut, handedOut}
-use Rattle.sections.specs.Header.{flagsIn}
-use Rattle.reader.proofs.PacketReads.{cc-data-of-packet}
-use Rattle.reader.specs.Packet.{captionLength, ccDataAt, fresh, packetChecks, packetRead, shownBy}
+use Rattle.sections.specs.Header.{flagsIn, rateOf, sequenceIn}
+use Rattle.sections.specs.TimeCode.{timeCodeOf}
+use Rattle.svc_section.specs.SvcInfo.{svcInfoShown}
+use Rattle.reader.proofs.PacketReads.{all-shown, cc-data-of-packet}
+use Rattle.reader.specs.Packet.{captionLength, ccDataAt, fresh, packetChecks, packetRead, shownBy, state, svcInfoAt}
+use Rattle.reader.specs.declared.packet.PacketRead.{PacketRead}
 use Rattle.reader.specs.Reader.{bufferAfter, captionsOf, cleared, read}
 use Rattle.reader.specs.declared.parser.CDPParser.{CDPParser}
 use Rattle.reader.specs.declared.parser.CDPParserRead.{CDPParserRead}
@@ -67,12 +70,17 @@ module _ (s : CDPParser) (p : List ℕ) (room : ℕ) where
     unfolding packetRead
     packet-refused wrong = refused-shows result (verdict (packetChecks p)) (captionLength p) (captionLength p) (shownBy p) (cleared s) wrong ∙ as-packet
 
-    pub packet-accepted : eqb (packetRead p .answer .number) 0 ≡ true → result (packetRead p .answer) (packetRead p .shown) ≡ read s p room
+    shown-accepted : eqb (packetRead p .answer .number) 0 ≡ true → result (packetRead p .answer) (packetRead p .shown) ≡ read s p room
     unfolding packetRead
-    packet-accepted right =
+    shown-accepted right =
         ap (λ (v : Verdict). result (answer v (captionLength p)) (ifClear v (shownBy p) fresh)) (packet-clear p right)
         ∙ ap (λ (v : Verdict). result (answer v (captionLength p)) (ifClear v (shownBy p) (cleared s))) (sym (packet-clear p right))
         ∙ as-packet
+
+    pub packet-accepted : eqb (packetRead p .answer .number) 0 ≡ true
+        → result (done (captionLength p)) (state (rateOf p) (timeCodeOf p (flagsIn p .«time_code») 7) (sequenceIn p) (svcInfoShown p (flagsIn p) (svcInfoAt p)))
+        ≡ read s p room
+    packet-accepted right = ap (λ (r : PacketRead). result (r .answer) (r .shown)) (all-shown p right) ∙ shown-accepted right
 
 -- the buffer
 module _ (p : List ℕ) (buffer : List ℕ) where
@@ -92,10 +100,8 @@ module _ (p : List ℕ) (buffer : List ℕ) where
         ∙ buffer-as-packet
 
     module _ (right : eqb (packetRead p .answer .number) 0 ≡ true) where
-      pub accepted-buffer : handOut p (ltb 0 (packetRead p .answer .first)) (packetRead p .«cc_data_at») buffer ≡ bufferAfter p buffer
-      unfolding packetRead
+      pub accepted-buffer : handOut p (ltb 0 (captionLength p)) (ccDataAt p) buffer ≡ bufferAfter p buffer
       accepted-buffer =
-          ap (λ (v : Verdict). handOut p (ltb 0 (answer v (captionLength p) .first)) (ifClear v (ccDataAt p) 0) buffer) (packet-clear p right)
-          ∙ captions-out p (ccDataAt p) buffer enough (flagsIn p .«cc_data») (has-captions p (packet-clear p right))
+          captions-out p (ccDataAt p) buffer enough (flagsIn p .«cc_data») (has-captions p (packet-clear p right))
           ∙ ap (λ (v : Verdict). ifClear v (over 0 (captionsOf p) buffer) buffer) (sym (packet-clear p right))
           ∙ buffer-as-packet

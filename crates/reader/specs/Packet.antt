@@ -2,6 +2,7 @@
 use mathlib.Core.List.{List, _++_}
 use Prim.Native.Nat.{ℕ, _+_}
 use lib.ListN.{length}
+use Rattle.basis.specs.Answer.{done}
 use Rattle.basis.specs.Check.{Check, when, sizeWhen, verdict, answer, ifClear}
 use Rattle.values.specs.Rate.{noRate}
 use Rattle.times.specs.Time.{timeAbsent, timeSize}
@@ -11,6 +12,7 @@ use Rattle.footer.specs.Footer.{closingChecks, footerFrom}
 use Rattle.sections.specs.Header.{headerChecks, rateOf, flagsIn, sequenceIn}
 use Rattle.svc_section.specs.SvcInfo.{svcInfoChecks, svcInfoSize, svcInfoOf}
 use Rattle.sections.specs.TimeCode.{timeCodeChecks, timeCodeOf}
+use Rattle.reader.specs.declared.checked.Checked.{Checked}
 use Rattle.reader.specs.declared.packet.PacketRead.{PacketRead}
 use Rattle.reader.specs.declared.parser.CDPParser.{CDPParser}
 use Rattle.services.specs.declared.list.MaybeServiceInfo.{MaybeServiceInfo}
@@ -63,6 +65,19 @@ shownBy p =
     (timeCodeOf p (flagsIn p .«time_code») timeCodeAt)
     (sequenceIn p)
     (svcInfoOf p (flagsIn p) (svcInfoAt p))
+
+-- what is known of an accepted packet before its service list is made
+abbrev pub checkedShown : List ℕ → Checked
+checkedShown p =
+    record {
+      answer = done (captionLength p);
+      framerate = rateOf p;
+      «time_code» = timeCodeOf p (flagsIn p .«time_code») timeCodeAt;
+      sequence = sequenceIn p;
+      flags = flagsIn p;
+      «cc_data_at» = ccDataAt p;
+      «svc_info_at» = svcInfoAt p;
+    }
 
 -- what reading a packet gives, with no state and no buffer
 unfoldable pub packetRead : List ℕ → PacketRead

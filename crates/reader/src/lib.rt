@@ -1,4 +1,5 @@
 // The packet reader: parser.rs of the Rust.
+mod checked;
 mod packet;
 mod parser;
 

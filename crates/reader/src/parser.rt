@@ -3,7 +3,7 @@ ghost use mathlib.Core.Path.{_≡_};
 ghost use lib.ListN.{length};
 ghost use Rattle.reader.specs.Packet.{fresh};
 ghost use Rattle.reader.specs.Reader as Reader;
-use crate::packet::PacketRead;
+use crate::checked::Checked;
 use basis::Answer;
 use sections::hand_out;
 use services::MaybeServiceInfo;
@@ -64,7 +64,7 @@ impl CDPParser {
                 parser: self,
             };
         }
-        let read = PacketRead::parse(packet);
+        let read = Checked::parse(packet);
         let answer = read.answer;
         if !answer.is_done() {
             return CDPParserRead {
@@ -74,8 +74,10 @@ impl CDPParser {
         }
         // A section with no captions is two bytes long: a length of 0 means that there is none.
         hand_out(packet, 0 < answer.first, read.cc_data_at, captions);
-        let parser = read.shown;
-        CDPParserRead { answer, parser }
+        CDPParserRead {
+            answer,
+            parser: read.shown(packet),
+        }
     }
 
     // Makes the reader new.

@@ -1,6 +1,6 @@
 -- Reading a section: where its entries are refused, and where they are read, the list is what the definition gives.
 -- Assumes nothing.
-use mathlib.Core.Path.{_≡_}
+use mathlib.Core.Path.{_≡_, refl}
 use mathlib.Core.Bool.{true, false}
 use mathlib.Core.List.{List}
 use Prim.Native.Nat.{ℕ, _/_, _%_, _≤_}
@@ -13,17 +13,22 @@ use Rattle.basis.specs.Answer.{LengthMismatch}
 use Rattle.basis.specs.Bytes.{byte}
 use Rattle.basis.specs.Check.{check, clear, verdict}
 use Rattle.svc_entries.specs.Entries.{countOf, entriesOf, entriesRead, filled, sectionChecks}
-use Rattle.services.specs.Section.{listOf, refusedList, sectionRead}
+use Rattle.services.specs.Section.{listOf, listWith, refusedList, sectionRead}
 use Rattle.services.specs.ServiceList.{empty, list}
 use Rattle.entries.specs.declared.entry.ServiceEntry.{ServiceEntry}
 use Rattle.basis.specs.declared.answer.Answer.{Answer}
 use Rattle.services.specs.declared.list.ServiceInfo.{ServiceInfo}
 use Rattle.services.specs.declared.section.ServiceInfoRead.{ServiceInfoRead}
 
--- the list that byte 1 and these places make
-abbrev listWith : ℕ → List ServiceEntry → ServiceInfo
-listWith header services =
-    list (eqb (header / 64 % 2) 1) (eqb (header / 32 % 2) 1) (eqb (header / 16 % 2) 1) services (header % 16)
+pub with-is : (header : ℕ) (services : List ServiceEntry)
+    → list (eqb (header / 64 % 2) 1) (eqb (header / 32 % 2) 1) (eqb (header / 16 % 2) 1) services (header % 16) ≡ listWith header services
+with-is header services =
+    let n : header / 1 % 16 ≡ header % 16 = omega arith in
+    rw n
+
+pub list-is : (d : List ℕ) → listWith (byte d 1) (filled (entriesOf d 2 (countOf d))) ≡ listOf d
+unfolding listOf
+list-is d = refl
 
 module _ (d : List ℕ) where
   pub list-refused : eqb (entriesRead d .answer .number) 0 ≡ false → refusedList (entriesRead d .answer) ≡ sectionRead d
@@ -40,14 +45,8 @@ module _ (d : List ℕ) where
     unfolding sectionChecks
     two-bytes = leb-true _ _ (kept-first (check (leb 2 (length d)) (LengthMismatch 2 (length d))) (drop 1 (sectionChecks d)) all-clear)
 
-    list-is : listWith (byte d 1) (filled (entriesOf d 2 (countOf d))) ≡ listOf d
-    unfolding listOf
-    list-is =
-        let n : countOf d ≡ byte d 1 % 16 = omega arith in
-        rw n
-
     pub list-read : _≡_ {A = ServiceInfoRead}
         (record { answer = entriesRead d .answer; list = listWith (byte d 1) (entriesRead d .services) })
         (sectionRead d)
     unfolding entriesRead sectionRead
-    list-read = rw (all-clear, list-is)
+    list-read = rw (all-clear, list-is d)

@@ -3,12 +3,17 @@ use mathlib.Core.List.{List}
 use Prim.Native.Nat.{ℕ}
 use Rattle.basis.specs.Bytes.{byte}
 use Rattle.basis.specs.Check.{verdict, answer, ifClear}
-use Rattle.basis.specs.Mask.{allSet, x40, x20, x10}
+use Rattle.basis.specs.Mask.{under, allSet, x40, x20, x10, x0F}
 use Rattle.svc_entries.specs.Entries.{countOf, entriesOf, filled, sectionChecks}
 use Rattle.services.specs.ServiceList.{list, empty}
+use Rattle.entries.specs.declared.entry.ServiceEntry.{ServiceEntry}
 use Rattle.services.specs.declared.list.ServiceInfo.{ServiceInfo}
 use Rattle.services.specs.declared.section.ServiceInfoRead.{ServiceInfoRead}
 use Rattle.basis.specs.declared.answer.Answer.{Answer}
+
+-- the list that byte 1 and these places make
+abbrev pub listWith : ℕ → List ServiceEntry → ServiceInfo
+listWith header services = list (allSet x40 header) (allSet x20 header) (allSet x10 header) services (under x0F header)
 
 -- byte 1: 40 start, 20 change, 10 complete
 unfoldable pub listOf : List ℕ → ServiceInfo

@@ -3,6 +3,9 @@ ghost use mathlib.Core.Path.{_≡_};
 ghost use Rattle.services.specs.Section as Section;
 use crate::list::ServiceInfo;
 use basis::Answer;
+use entries::ServiceEntry;
+use svc_entries::byte;
+use svc_entries::entries_of;
 use svc_entries::read_entries;
 
 // What reading gives: beside a refusal, the empty list.
@@ -32,16 +35,29 @@ impl ServiceInfo {
             return ServiceInfoRead::refused(answer);
         }
         let services = read.services;
-        let header = data[1];
         ServiceInfoRead {
             answer,
-            list: ServiceInfo {
-                start: header / 64 % 2 == 1,
-                change: header / 32 % 2 == 1,
-                complete: header / 16 % 2 == 1,
-                services,
-                count: (header % 16) as usize,
-            },
+            list: Self::with(data[1], services),
+        }
+    }
+
+    // The list that a section's bytes hold, whatever their fixed bits are; no bytes hold the empty list.
+    pub fn of_bytes(data: &[u8]) -> Self
+        ensures { λ r. ⌜ r ≡ Section.listOf (now («data» .entry)) ⌝ }
+    {
+        Self::with(byte(data, 1), entries_of(data))
+    }
+
+    // The list that a section's byte 1 and these places make.
+    fn with(header: u8, services: [ServiceEntry; 15]) -> Self
+        ensures { λ r. ⌜ r ≡ Section.listWith header services ⌝ }
+    {
+        Self {
+            start: header / 64 % 2 == 1,
+            change: header / 32 % 2 == 1,
+            complete: header / 16 % 2 == 1,
+            services,
+            count: (header % 16) as usize,
         }
     }
 }

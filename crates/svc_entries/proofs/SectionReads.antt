@@ -110,7 +110,7 @@ read-clear : (d : List ℕ) (at : ℕ) → eqb (readAt d at .answer .number) 0 �
 unfolding readAt
 read-clear d at h = ap (λ (v : Verdict). shown v (entryOf (sixBehind d at)) .entry) (done-clear (verdict (checksAt d at)) 0 h)
 
--- the entries one after the other: what is read of the first k, and what is left to test
+-- the entries one after the other: what the first k hold, and what is left to test
 unfoldable pub firstRead : List ℕ → ℕ → List ServiceEntry
 firstRead d k = filled (entriesOf d 2 k)
 
@@ -148,18 +148,26 @@ module _ (d : List ℕ) (k : ℕ) where
   unfolding firstRead filled
   first-none = refl
 
-  pub first-more : k < 15 → eqb (readAt d (2 + 7 * k) .answer .number) 0 ≡ true
-      → set (firstRead d k) k (readAt d (2 + 7 * k) .entry) ≡ firstRead d (k + 1)
+  pub first-more : k < 15 → set (firstRead d k) k (entryOf (sixBehind d (2 + 7 * k))) ≡ firstRead d (k + 1)
   unfolding firstRead
-  first-more h r =
+  first-more h =
       let es : List ServiceEntry = entriesOf d 2 k in
       let e : ServiceEntry = entryOf (sixBehind d (2 + 7 * k)) in
       let long : length es ≡ k = entries-length d 2 k in
-      rw (read-clear d (2 + 7 * k) r)
-      (ap (λ (n : ℕ). set (filled es) n e) (sym long)
+      ap (λ (n : ℕ). set (filled es) n e) (sym long)
       ∙ filled-more es e (omega arith)
       ∙ ap filled (sym (entries-more d 2 k))
-      ∙ ap (λ (n : ℕ). filled (entriesOf d 2 n)) (sym (add-one k)))
+      ∙ ap (λ (n : ℕ). filled (entriesOf d 2 n)) (sym (add-one k))
+
+  pub read-more : k < 15 → eqb (readAt d (2 + 7 * k) .answer .number) 0 ≡ true
+      → set (firstRead d k) k (readAt d (2 + 7 * k) .entry) ≡ firstRead d (k + 1)
+  read-more h r = rw (read-clear d (2 + 7 * k) r) (first-more h)
+
+  pub first-all : k ≡ byte d 1 % 16 → firstRead d k ≡ filled (entriesOf d 2 (countOf d))
+  unfolding firstRead
+  first-all h =
+      let n : k ≡ countOf d = omega (arith, h) in
+      rw n
 
 module _ (d : List ℕ) (k count : ℕ) where
   pub left-first : verdict (entryListChecks d 2 count) ≡ left d 0 count

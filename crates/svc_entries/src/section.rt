@@ -3,6 +3,7 @@ ghost use mathlib.Core.Path.{_≡_};
 ghost use Prim.Native.Nat.{_+_, _≤_};
 ghost use lib.ListN.{length};
 ghost use Rattle.svc_entries.specs.Entries as Entries;
+ghost use Rattle.basis.specs.Bytes as Bytes;
 ghost use Rattle.entries.specs.Service as Service;
 use basis::Answer;
 use entries::FieldOrService;
@@ -79,6 +80,41 @@ fn entries(data: &[u8], header: u8) -> EntriesRead
     }
 }
 
+// The entries that a section's bytes hold, whatever their fixed bits are; bytes past the end are zeros.
+pub fn entries_of(data: &[u8]) -> [ServiceEntry; 15]
+    ensures { λ r. ⌜ r ≡ Entries.filled (Entries.entriesOf (now («data» .entry)) 2 (Entries.countOf (now («data» .entry)))) ⌝ }
+{
+    let count = (byte(data, 1) % 16) as usize;
+    let mut services = fillers();
+    for k in 0..count {
+        let entry = ServiceEntry::of_bytes(six_behind(data, 2 + 7 * k));
+        services[k] = entry;
+    }
+    services
+}
+
+// The six bytes behind a header byte, zeros past the end.
+fn six_behind(data: &[u8], at: usize) -> [u8; 6]
+    requires { ⌜ at + 6 ≤ 18446744073709551615 ⌝ }
+    ensures { λ r. ⌜ r ≡ Entries.sixBehind (now («data» .entry)) at ⌝ }
+{
+    [
+        byte(data, at + 1),
+        byte(data, at + 2),
+        byte(data, at + 3),
+        byte(data, at + 4),
+        byte(data, at + 5),
+        byte(data, at + 6),
+    ]
+}
+
+// The byte at a place, 0 past the end.
+pub fn byte(data: &[u8], at: usize) -> u8
+    ensures { λ r. ⌜ r ≡ Bytes.byte (now («data» .entry)) at ⌝ }
+{
+    if at < data.len() { data[at] } else { 0 }
+}
+
 // Reads the header byte at a place and the entry behind it.
 fn entry_at(data: &[u8], at: usize) -> ServiceEntryRead
     requires { ⌜ at + 7 ≤ length (now «data») ⌝ }
@@ -103,21 +139,6 @@ fn entry_at(data: &[u8], at: usize) -> ServiceEntryRead
         return ServiceEntryRead::refused(Answer::SERVICE_NUMBER_MISMATCH);
     }
     read
-}
-
-// The six bytes behind a header byte.
-fn six_behind(data: &[u8], at: usize) -> [u8; 6]
-    requires { ⌜ at + 7 ≤ length (now «data») ⌝ }
-    ensures { λ r. ⌜ r ≡ Entries.sixBehind (now («data» .entry)) at ⌝ }
-{
-    [
-        data[at + 1],
-        data[at + 2],
-        data[at + 3],
-        data[at + 4],
-        data[at + 5],
-        data[at + 6],
-    ]
 }
 
 // The number that an entry's header byte names.

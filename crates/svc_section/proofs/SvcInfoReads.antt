@@ -1,21 +1,24 @@
 -- Rule 7, test by test: what the definition gives where a test is the first that fails, and where none does.
 -- Assumes nothing.
-use mathlib.Core.Bool.{Bool, Bool·beq, not, true, false}
-use mathlib.Core.List.{List, [], _∷_}
-use mathlib.Core.Path.{_≡_, _∙_, sym, ap}
+use mathlib.Core.Bool.{Bool, Bool·beq, cond, not, true, false}
+use mathlib.Core.List.{List, [], _∷_, _++_}
+use mathlib.Core.Path.{_≡_, _∙_, sym, ap, refl}
 use Prim.Native.Nat.{ℕ, _+_, _-_, _*_, _/_, _%_, _≤_, _<_}
 use native.Mathlib.Omega.{arith}
 use borrow.Author.Tests.{eq-eqb, ne-eqb, le-leb, lt-leb, not-true, not-false}
 use lib.Dec.{eqb}
 use lib.ListN.{length}
-use Rattle.basis.proofs.Verdicts.{andThen, done-clear, done-value, refused-shows, refused-stays, verdict-append}
+use Rattle.basis.proofs.Verdicts.{andThen, done-clear, done-value, kept-first, kept-rest, refused-shows, refused-stays, verdict-append}
 use Rattle.basis.specs.Answer.{LengthMismatch, ServiceFlagsMismatched, WrongMagic, done, refused}
 use Rattle.basis.specs.Bytes.{byte, part}
-use Rattle.basis.specs.Check.{Check, Verdict, answer, check, clear, ifClear, verdict}
-use Rattle.svc_entries.specs.Entries.{sectionChecks}
+use Rattle.basis.specs.Check.{Check, Verdict, answer, check, clear, ifClear, verdict, when}
+use Rattle.values.specs.Packet.{servicesId}
+use Rattle.svc_entries.specs.Entries.{filled, sectionChecks}
 use Rattle.services.specs.Section.{listOf, sectionRead}
 use Rattle.services.specs.ServiceList.{empty, listAbsent, listPresent}
-use Rattle.svc_section.specs.SvcInfo.{noSvcInfo, sameFlags, svcInfoRead}
+use Rattle.svc_section.specs.SvcInfo.{noSvcInfo, sameFlags, spanOf, svcInfoBytes, svcInfoChecks, svcInfoOf, svcInfoRead, svcInfoShown, svcInfoSize, svcInfoThere}
+use Rattle.sections.specs.Section.{sizeCheck}
+use Rattle.svc_section.specs.declared.svc_info.Span.{Span}
 use Rattle.svc_section.specs.declared.svc_info.SvcInfoSection.{SvcInfoSection}
 use Rattle.services.specs.declared.list.MaybeServiceInfo.{MaybeServiceInfo}
 use Rattle.services.specs.declared.list.ServiceInfo.{ServiceInfo}
@@ -120,3 +123,51 @@ module _ (p : List ℕ) (f : Flags) (i : ℕ) where
             svc-info-whole h =
                 let agree : sameFlags (listOf bytes) f ≡ true = rw the-list at h in
                 rw the-list (simp (alone, agree) at as-parts)
+
+-- the bytes of a span hold the section's list, and those of none the empty one
+no-bytes : listOf [] ≡ empty
+unfolding listOf filled
+no-bytes = refl
+
+span-shows : (p : List ℕ) (i size : ℕ) (there : Bool)
+    → _≡_ {A = MaybeServiceInfo}
+    (record {
+      present = spanOf there i size .present;
+      «service_info» = listOf (part (spanOf there i size .from) (spanOf there i size .to - spanOf there i size .from) p);
+    })
+    (cond there (listPresent (listOf (part i size p))) listAbsent)
+span-shows p i size true =
+    let n : i + size - i ≡ size = omega arith in
+    rw n
+span-shows p i size false = rw no-bytes
+
+module _ (p : List ℕ) (f : Flags) (i : ℕ) where
+  abbrev spanned : Span
+  spanned = spanOf (svcInfoThere p f i) i (svcInfoSize p i)
+
+  pub span-shown : _≡_ {A = MaybeServiceInfo}
+      (record { present = spanned .present; «service_info» = listOf (part (spanned .from) (spanned .to - spanned .from) p) }) (svcInfoShown p f i)
+  unfolding svcInfoShown
+  span-shown = span-shows p i (svcInfoSize p i) (svcInfoThere p f i)
+
+  pub no-flag : f .«svc_info» ≡ false → spanOf false i (svcInfoSize p i) ≡ spanned
+  no-flag h = simp h
+
+  pub cut-off : f .«svc_info» ≡ true → length p < i + size p f i → spanOf false i (svcInfoSize p i) ≡ spanned
+  cut-off h a = simp (h, as-count p f i, lt-leb _ _ a)
+
+  pub all-there : f .«svc_info» ≡ true → i + size p f i ≤ length p → spanOf true i (size p f i) ≡ spanned
+  all-there h a = simp (h, as-count p f i, le-leb _ _ a)
+
+  -- an accepted section is there: its own test of the packet's size says so
+  fits-where-clear : (on : Bool) → f .«svc_info» ≡ on → verdict (when on (svcInfoChecks p f i)) ≡ clear → svcInfoShown p f i ≡ svcInfoOf p f i
+  unfolding svcInfoShown
+  fits-where-clear true h v =
+      let cs : List Check = sectionChecks (svcInfoBytes p i) ++ check (sameFlags (listOf (svcInfoBytes p i)) f) ServiceFlagsMismatched ∷ [] in
+      let long : Check = sizeCheck p (i + svcInfoSize p i) in
+      let id : Check = check (eqb (byte p i) servicesId) WrongMagic in
+      simp (h, kept-first long cs (kept-rest id (long ∷ cs) (kept-rest (sizeCheck p (i + 2)) (id ∷ long ∷ cs) v)))
+  fits-where-clear false h v = simp h
+
+  pub shown-where-clear : verdict (when (f .«svc_info») (svcInfoChecks p f i)) ≡ clear → svcInfoShown p f i ≡ svcInfoOf p f i
+  shown-where-clear v = fits-where-clear (f .«svc_info») refl v

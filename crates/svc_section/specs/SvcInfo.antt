@@ -1,8 +1,9 @@
 -- Rule 7: the service section, 2+7s bytes from i on.
-use mathlib.Core.Bool.{Bool, Bool·beq, cond, _&&_}
+use mathlib.Core.Bool.{Bool, Bool·beq, cond, true, false, _&&_}
 use mathlib.Core.List.{List, [], _∷_, _++_}
 use Prim.Native.Nat.{ℕ, _+_}
-use lib.Dec.{eqb}
+use lib.Dec.{eqb, leb}
+use lib.ListN.{length}
 use Rattle.basis.specs.Answer.{WrongMagic, ServiceFlagsMismatched}
 use Rattle.basis.specs.Bytes.{byte, part}
 use Rattle.basis.specs.Check.{Check, check, when, sizeWhen, verdict, answer, ifClear}
@@ -12,6 +13,7 @@ use Rattle.svc_entries.specs.Entries.{sectionChecks, sectionLength}
 use Rattle.services.specs.Section.{listOf}
 use Rattle.services.specs.ServiceList.{listPresent, listAbsent}
 use Rattle.sections.specs.Section.{sizeCheck}
+use Rattle.svc_section.specs.declared.svc_info.Span.{Span}
 use Rattle.svc_section.specs.declared.svc_info.SvcInfoSection.{SvcInfoSection}
 use Rattle.services.specs.declared.list.MaybeServiceInfo.{MaybeServiceInfo}
 use Rattle.services.specs.declared.list.ServiceInfo.{ServiceInfo}
@@ -44,6 +46,18 @@ svcInfoChecks p f i =
 -- absent where the flag is clear
 abbrev pub svcInfoOf : List ℕ → Flags → ℕ → MaybeServiceInfo
 svcInfoOf p f i = cond (f .«svc_info») (listPresent (listOf (svcInfoBytes p i))) listAbsent
+
+-- the section is there where the header says so and the packet has all of its bytes
+abbrev pub svcInfoThere : List ℕ → Flags → ℕ → Bool
+svcInfoThere p f i = f .«svc_info» && leb (i + svcInfoSize p i) (length p)
+
+-- so many bytes from a place on, or none
+abbrev pub spanOf : Bool → ℕ → ℕ → Span
+spanOf there i size = cond there (record { present = true; from = i; to = i + size }) (record { present = false; from = 0; to = 0 })
+
+-- the list of a section that is there, whatever its fixed bits are
+unfoldable pub svcInfoShown : List ℕ → Flags → ℕ → MaybeServiceInfo
+svcInfoShown p f i = cond (svcInfoThere p f i) (listPresent (listOf (svcInfoBytes p i))) listAbsent
 
 -- what reading the section gives; with 0 goes how far i moves on
 unfoldable pub svcInfoRead : List ℕ → Flags → ℕ → SvcInfoSection

@@ -1,9 +1,12 @@
 // Rule 7: the service section.
 ghost use mathlib.Core.Path.{_≡_};
-ghost use Rattle.svc_section.specs.SvcInfo.{noSvcInfo, sameFlags, svcInfoRead};
+ghost use Prim.Native.Nat.{_≤_};
+ghost use lib.ListN.{length};
+ghost use Rattle.svc_section.specs.SvcInfo.{noSvcInfo, sameFlags, spanOf, svcInfoRead, svcInfoShown, svcInfoSize, svcInfoThere};
 use basis::Answer;
 use services::MaybeServiceInfo;
 use services::ServiceInfo;
+use svc_entries::byte;
 use values::Flags;
 use values::Packet;
 
@@ -60,6 +63,57 @@ impl SvcInfoSection {
                 service_info,
             },
         }
+    }
+}
+
+// Where a section stands, and whether it is there.
+struct Span {
+    present: bool,
+    from: usize,
+    to: usize,
+}
+
+impl Span {
+    const NONE: Self = Self {
+        present: false,
+        from: 0,
+        to: 0,
+    };
+
+    // Is there where the header says so and the packet has all of its bytes.
+    fn of(packet: &[u8], flags: Flags, at: u8) -> Self
+        ensures { λ r. ⌜ r ≡ spanOf (svcInfoThere (now (packet .entry)) flags at) at (svcInfoSize (now (packet .entry)) at) ⌝ }
+        ensures { λ r. ⌜ r .from ≤ r .to ⌝ }
+        ensures { λ r. ⌜ r .to ≤ length (now (packet .entry)) ⌝ }
+    {
+        if !flags.svc_info {
+            return Self::NONE;
+        }
+        let i = at as usize;
+        let to = i + (2 + 7 * (byte(packet, i + 1) % 16) as usize);
+        if packet.len() < to {
+            return Self::NONE;
+        }
+        Self {
+            present: true,
+            from: i,
+            to,
+        }
+    }
+}
+
+// The list of the section at a place, whatever its fixed bits are, or none where there is no section.
+pub fn svc_info_shown(packet: &[u8], flags: Flags, at: u8) -> MaybeServiceInfo
+    ensures { λ r. ⌜ r ≡ svcInfoShown (now (packet .entry)) flags at ⌝ }
+{
+    let span = Span::of(packet, flags, at);
+    let from = span.from;
+    let to = span.to;
+    // No bytes hold the empty list.
+    let service_info = ServiceInfo::of_bytes(&packet[from..to]);
+    MaybeServiceInfo {
+        present: span.present,
+        service_info,
     }
 }
 

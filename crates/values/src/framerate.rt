@@ -1,6 +1,6 @@
 // Rule 3: the eight rates.
 ghost use mathlib.Core.Path.{_≡_};
-ghost use Rattle.values.specs.Rate.{fromId, known};
+ghost use Rattle.values.specs.Rate.{fromId, known, present, row};
 
 pub struct Framerate {
     pub id: u8,
@@ -23,66 +23,32 @@ impl MaybeFramerate {
             denom: 0,
         },
     };
-}
 
-const FRAMERATES: [Framerate; 8] = [
-    Framerate {
-        id: 1,
-        numer: 24000,
-        denom: 1001,
-    },
-    Framerate {
-        id: 2,
-        numer: 24,
-        denom: 1,
-    },
-    Framerate {
-        id: 3,
-        numer: 25,
-        denom: 1,
-    },
-    Framerate {
-        id: 4,
-        numer: 30000,
-        denom: 1001,
-    },
-    Framerate {
-        id: 5,
-        numer: 30,
-        denom: 1,
-    },
-    Framerate {
-        id: 6,
-        numer: 50,
-        denom: 1,
-    },
-    Framerate {
-        id: 7,
-        numer: 60000,
-        denom: 1001,
-    },
-    Framerate {
-        id: 8,
-        numer: 60,
-        denom: 1,
-    },
-];
+    fn known(id: u8, numer: u32, denom: u32) -> Self
+        ensures { λ r. ⌜ r ≡ present (row id numer denom) ⌝ }
+    {
+        Self {
+            present: true,
+            framerate: Framerate { id, numer, denom },
+        }
+    }
+}
 
 impl Framerate {
     // The rate with this id, or none.
     pub fn from_id(id: u8) -> MaybeFramerate
         ensures { λ r. ⌜ r ≡ fromId id ⌝ }
     {
-        if id < 1 {
-            return MaybeFramerate::ABSENT;
-        }
-        if 8 < id {
-            return MaybeFramerate::ABSENT;
-        }
-        let at = (id - 1) as usize;
-        MaybeFramerate {
-            present: true,
-            framerate: FRAMERATES[at],
+        match id {
+            1 => MaybeFramerate::known(1, 24000, 1001),
+            2 => MaybeFramerate::known(2, 24, 1),
+            3 => MaybeFramerate::known(3, 25, 1),
+            4 => MaybeFramerate::known(4, 30000, 1001),
+            5 => MaybeFramerate::known(5, 30, 1),
+            6 => MaybeFramerate::known(6, 50, 1),
+            7 => MaybeFramerate::known(7, 60000, 1001),
+            8 => MaybeFramerate::known(8, 60, 1),
+            _ => MaybeFramerate::ABSENT,
         }
     }
 

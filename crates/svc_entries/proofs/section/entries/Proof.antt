@@ -6,7 +6,7 @@ use lib.ListN.{length, length-set}
 use native.Mathlib.Omega.{arith}
 use borrow.Author.Needs.{needs}
 use borrow.Author.Tests.{not-true, not-false}
-use Rattle.svc_entries.proofs.SectionReads.{firstRead, left, first-none, first-more, left-goes-on, section-refused, section-whole}
+use Rattle.svc_entries.proofs.SectionReads.{firstRead, left, first-none, read-more, left-goes-on, section-refused, section-whole}
 use Rattle.svc_entries.proofs.section.entries.Statement.{statement}
 use Rattle.svc_entries.proofs.section.entries.Tie as tie
 
@@ -66,7 +66,7 @@ loop-again c =
     let e = s .entry-at .ensures in
     let inv = s .before .before .loop .inv in
     let r = rw e at (sym (c .before .before .is-done .ensures) ∙ not-false _ (c .before .if1 .left)) in
-    (omega arith, simp length-set (inv .1), rw (inv .2, e) (first-more _ _ (omega arith) r), inv .3 ∙ left-goes-on _ _ _ (omega arith) r)
+    (omega arith, simp length-set (inv .1), rw (inv .2, e) (read-more _ _ (omega arith) r), inv .3 ∙ left-goes-on _ _ _ (omega arith) r)
 
 done-requires : tie.Need-done-requires Inv-loop μ-loop
 done-requires c κs = search needs

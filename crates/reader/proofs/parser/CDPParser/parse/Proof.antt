@@ -25,21 +25,25 @@ cleared-requires c κs = search needs
 
 returns-2 : tie.Need-returns-2
 returns-2 c =
-    let e = c .before .before .before .before .parse .ensures in
+    let e = c .before .before .before .before .parse .ensures .0 in
     let wrong = rw e at (sym (c .before .before .is-done .ensures) ∙ not-true _ (c .before .if2 .taken)) in
     (rw (c .cleared .ensures, e) (packet-refused _ _ _ (omega arith) wrong), refused-buffer _ _ (omega arith) wrong)
 
 hand-out-requires : tie.Need-hand-out-requires
 hand-out-requires c κs = search needs
 
+shown-requires : tie.Need-shown-requires
+shown-requires c κs = search needs
+
 same-length : tie.Need-same-length
 same-length c = search needs
 
 returns-3 : tie.Need-returns-3
 returns-3 c =
-    let e = c .before .before .before .before .before .before .before .before .before .parse .ensures in
-    let right = rw e at (sym (c .before .before .before .before .before .before .before .is-done .ensures) ∙ not-false _ (c .before .before .before .before .before .before .if2 .left)) in
-    (rw e (packet-accepted _ _ _ (omega arith) right), c .before .before .before .hand-out .ensures ∙ rw e (accepted-buffer _ _ (omega arith) right))
+    let checked = c .before .before .before .before .before .before .before .before .before .parse .ensures in
+    let done = sym (c .before .before .before .before .before .before .before .is-done .ensures) ∙ not-false _ (c .before .before .before .before .before .before .if2 .left) in
+    let right = rw (checked .0) at done in
+    (rw (c .shown .ensures, checked .1 done) (packet-accepted _ _ _ (omega arith) right), c .before .before .before .hand-out .ensures ∙ rw (checked .1 done) (accepted-buffer _ _ (omega arith) right))
 
 pub parse-spec : {M : Type 1} → statement M
 parse-spec =
@@ -52,5 +56,6 @@ parse-spec =
     cleared-requires
     returns-2
     hand-out-requires
+    shown-requires
     same-length
     returns-3)

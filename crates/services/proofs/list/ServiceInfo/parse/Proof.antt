@@ -23,20 +23,20 @@ returns c =
     let e = done .before .before .read-entries .ensures in
     c .refused .ensures ∙ rw e (list-refused _ (rw e at (sym (done .is-done .ensures) ∙ not-true _ (c .before .if1 .taken))))
 
-shared-slice-read-header : tie.Need-shared-slice-read-header
-shared-slice-read-header c =
+shared-slice-read-with : tie.Need-shared-slice-read-with
+shared-slice-read-with c =
     let s = c .before .before in
     let e = s .before .before .before .read-entries .ensures in
     omega (arith, two-bytes _ (rw e at (sym (s .before .is-done .ensures) ∙ not-false _ (s .if1 .left))))
 
-cast-t17 : tie.Need-cast-t17
-cast-t17 c = search needs
+with-requires : tie.Need-with-requires
+with-requires c κs = search needs
 
 returns-2 : tie.Need-returns-2
 returns-2 c =
-    let s = c .before .before in
+    let s = c .before .before .before in
     let e = s .before .before .before .read-entries .ensures in
-    rw e (list-read _ (rw e at (sym (s .before .is-done .ensures) ∙ not-false _ (s .if1 .left))))
+    rw (c .with .ensures, e) (list-read _ (rw e at (sym (s .before .is-done .ensures) ∙ not-false _ (s .if1 .left))))
 
 pub parse-spec : {M : Type 1} → statement M
 parse-spec =
@@ -46,6 +46,6 @@ parse-spec =
     is-done-requires
     refused-requires
     returns
-    shared-slice-read-header
-    cast-t17
+    shared-slice-read-with
+    with-requires
     returns-2)

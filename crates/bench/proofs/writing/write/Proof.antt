@@ -1,0 +1,91 @@
+-- The turns end after the last. The buffer keeps its length.
+-- Assumes nothing.
+use borrow.Author.Needs.{needs}
+use mathlib.Core.Path.{_≡_}
+use Prim.Native.Nat.{_≤_, _-_}
+use lib.ListN.{length}
+use Rattle.bench.proofs.writing.write.Statement.{statement}
+use Rattle.bench.proofs.writing.write.Tie as tie
+
+abbrev Inv-loop : tie.InvT-loop
+Inv-loop framerate turns captions out₀ writer₀ answers₀ last₀ turn₀ t11 t12 t13 out writer answers last turn =
+    (turn ≤ turns) × (length out ≡ length out₀)
+
+abbrev μ-loop : tie.MeasureT-loop
+μ-loop framerate turns captions out₀ writer₀ answers₀ last₀ turn₀ t11 t12 t13 out writer answers last turn =
+    turns - turn
+
+loop-holds : tie.Need-loop-holds Inv-loop μ-loop
+loop-holds c = search needs
+
+cast-set-sequence-count : tie.Need-cast-set-sequence-count Inv-loop μ-loop
+cast-set-sequence-count c = search needs
+
+set-sequence-count-requires : tie.Need-set-sequence-count-requires Inv-loop μ-loop
+set-sequence-count-requires c κs = search needs
+
+write-requires : tie.Need-write-requires Inv-loop μ-loop
+write-requires c κs = search needs
+
+cast-wrapping-add-u64 : tie.Need-cast-wrapping-add-u64 Inv-loop μ-loop
+cast-wrapping-add-u64 c = search needs
+
+wrapping-add-u64-requires : tie.Need-wrapping-add-u64-requires Inv-loop μ-loop
+wrapping-add-u64-requires c κs = search needs
+
+add-turn : tie.Need-add-turn Inv-loop μ-loop
+add-turn c = search needs
+
+loop-less : tie.Need-loop-less Inv-loop μ-loop
+loop-less c = search needs
+
+loop-again : tie.Need-loop-again Inv-loop μ-loop
+loop-again c = search needs
+
+slice-aggregate-number : tie.Need-slice-aggregate-number Inv-loop μ-loop
+slice-aggregate-number c = search needs
+
+number-requires : tie.Need-number-requires Inv-loop μ-loop
+number-requires c κs = search needs
+
+slice-aggregate-number-2 : tie.Need-slice-aggregate-number-2 Inv-loop μ-loop
+slice-aggregate-number-2 c = search needs
+
+number-requires-2 : tie.Need-number-requires-2 Inv-loop μ-loop
+number-requires-2 c κs = search needs
+
+slice-aggregate-sum : tie.Need-slice-aggregate-sum Inv-loop μ-loop
+slice-aggregate-sum c = search needs
+
+sum-requires : tie.Need-sum-requires Inv-loop μ-loop
+sum-requires c κs = search needs
+
+same-length : tie.Need-same-length Inv-loop μ-loop
+same-length c = search needs
+
+returns : tie.Need-returns Inv-loop μ-loop
+returns c = search needs
+
+pub write-spec : {M : Type 1} → statement M
+write-spec =
+    tie.close
+    (tie.spec
+    Inv-loop
+    μ-loop
+    loop-holds
+    cast-set-sequence-count
+    set-sequence-count-requires
+    write-requires
+    cast-wrapping-add-u64
+    wrapping-add-u64-requires
+    add-turn
+    loop-less
+    loop-again
+    slice-aggregate-number
+    number-requires
+    slice-aggregate-number-2
+    number-requires-2
+    slice-aggregate-sum
+    sum-requires
+    same-length
+    returns)

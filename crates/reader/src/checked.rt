@@ -1,0 +1,104 @@
+// Rules 2 to 9, one after the other: whether a packet is accepted, and all that it holds but its service list.
+ghost use mathlib.Core.Bool.{true};
+ghost use mathlib.Core.Path.{_≡_};
+ghost use lib.Dec.{eqb};
+ghost use Rattle.reader.specs.Packet.{checkedShown, packetRead, state};
+ghost use Rattle.svc_section.specs.SvcInfo.{svcInfoShown};
+use crate::parser::CDPParser;
+use basis::Answer;
+use footer::closing;
+use sections::Header;
+use sections::TimeCodeSection;
+use sections::cc_data;
+use svc_section::SvcInfoSection;
+use svc_section::svc_info_shown;
+use times::MaybeTimeCode;
+use values::Flags;
+use values::MaybeFramerate;
+
+// The list is made when nothing is left that could refuse, so that no refusal and no packet without services copies one.
+pub struct Checked {
+    pub answer: Answer,
+    pub framerate: MaybeFramerate,
+    pub time_code: MaybeTimeCode,
+    pub sequence: u16,
+    pub flags: Flags,
+    pub cc_data_at: u8,
+    pub svc_info_at: u8,
+}
+
+impl Checked {
+    fn refused(answer: Answer) -> Self
+        ensures { λ r. ⌜ r .answer ≡ answer ⌝ }
+    {
+        Self {
+            answer,
+            framerate: MaybeFramerate::ABSENT,
+            time_code: MaybeTimeCode::ABSENT,
+            sequence: 0,
+            flags: Flags::NONE,
+            cc_data_at: 0,
+            svc_info_at: 0,
+        }
+    }
+
+    // Each section begins where the one before it ends.
+    pub fn parse(packet: &[u8]) -> Self
+        ensures { λ r. ⌜ r .answer ≡ packetRead (now (packet .entry)) .answer ⌝ }
+        ensures { λ r. ⌜ (eqb (r .answer .number) 0 ≡ true → r ≡ checkedShown (now (packet .entry))) ⌝ }
+    {
+        let header = Header::parse(packet);
+        let header_answer = header.answer;
+        if !header_answer.is_done() {
+            return Self::refused(header_answer);
+        }
+        let flags = header.flags;
+        let section = TimeCodeSection::parse(packet, flags.time_code, 7);
+        let time_code_answer = section.answer;
+        if !time_code_answer.is_done() {
+            return Self::refused(time_code_answer);
+        }
+        let cc_data_at = 7 + time_code_answer.first;
+        let answer = cc_data(packet, flags.cc_data, cc_data_at as u8);
+        if !answer.is_done() {
+            return Self::refused(answer);
+        }
+        let svc_info_at = cc_data_at + answer.first;
+        let svc_info = SvcInfoSection::parse(packet, flags, svc_info_at as u8);
+        let svc_info_answer = svc_info.answer;
+        if !svc_info_answer.is_done() {
+            return Self::refused(svc_info_answer);
+        }
+        let closing_at = svc_info_at + svc_info_answer.first;
+        let closing_answer = closing(packet, header.sequence, closing_at as u8);
+        if !closing_answer.is_done() {
+            return Self::refused(closing_answer);
+        }
+        let framerate = header.framerate;
+        let time_code = section.time_code;
+        Self {
+            answer,
+            framerate,
+            time_code,
+            sequence: header.sequence,
+            flags,
+            cc_data_at: cc_data_at as u8,
+            svc_info_at: svc_info_at as u8,
+        }
+    }
+
+    // What the reader shows of a packet that is accepted.
+    pub fn shown(self, packet: &[u8]) -> CDPParser
+        ensures { λ r. ⌜ r ≡ state (self .framerate) (self .«time_code») (self .sequence) (svcInfoShown (now (packet .entry)) (self .flags) (self .«svc_info_at»)) ⌝ }
+    {
+        let framerate = self.framerate;
+        let time_code = self.time_code;
+        let flags = self.flags;
+        CDPParser {
+            framerate,
+            time_code,
+            sequence: self.sequence,
+            service_info: svc_info_shown(packet, flags, self.svc_info_at),
+        }
+    }
+}
