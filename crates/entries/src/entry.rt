@@ -44,7 +44,7 @@ impl ServiceEntry {
     }
 
     // What the six bytes hold, whatever their fixed bits are.
-    pub fn of_bytes(bytes: [u8; 6]) -> Self
+    pub fn untested(bytes: [u8; 6]) -> Self
         ensures { λ r. ⌜ r ≡ Entry.entryOf bytes ⌝ }
     {
         Self {
@@ -84,7 +84,7 @@ impl ServiceEntry {
         }
         ServiceEntryRead {
             answer: Answer::done(0),
-            entry: Self::of_bytes(bytes),
+            entry: Self::untested(bytes),
         }
     }
 }

@@ -8,7 +8,7 @@ use native.Mathlib.Omega.{arith}
 use borrow.Author.Tests.{eqb-true}
 use lib.Dec.{eqb}
 use lib.ListN.{length}
-use Rattle.basis.proofs.Verdicts.{and-first, and-second, andThen, done-clear, kept-first, kept-rest, refused-stays, verdict-append}
+use Rattle.basis.proofs.Verdicts.{and-first, and-second, andThen, done-clear, kept-first, kept-rest, refused-not-done, refused-stays, verdict-append}
 use Rattle.basis.specs.Answer.{LengthMismatch, UnknownFramerate, WrongMagic, done}
 use Rattle.basis.specs.Bytes.{byte}
 use Rattle.values.specs.Packet.{leastSize}
@@ -24,7 +24,7 @@ use Rattle.sections.specs.Section.{sizeCheck}
 use Rattle.svc_section.specs.SvcInfo.{svcInfoChecks, svcInfoOf, svcInfoRead, svcInfoShown, svcInfoSize}
 use Rattle.svc_section.proofs.SvcInfoReads.{shown-where-clear}
 use Rattle.sections.specs.TimeCode.{timeCodeChecks, timeCodeOf, timeCodeRead}
-use Rattle.reader.specs.Packet.{captionLength, ccDataAt, checkedShown, closingAt, fresh, packetChecks, packetRead, refusedPacket, shownBy, state, svcInfoAt}
+use Rattle.reader.specs.Packet.{captionLength, ccDataAt, checkedRead, checkedShown, closingAt, fresh, packetChecks, packetRead, refusedChecked, refusedPacket, shownBy, state, svcInfoAt}
 use Rattle.reader.specs.declared.checked.Checked.{Checked}
 use Rattle.reader.specs.declared.packet.PacketRead.{PacketRead}
 use Rattle.reader.specs.declared.parser.CDPParser.{CDPParser}
@@ -42,10 +42,36 @@ given-refused : (v : Verdict) (k length : ℕ) (s : CDPParser) (at : ℕ)
 given-refused clear k length s at h = absurd (true≢false h)
 given-refused (broken why) k length s at h = refl
 
--- a refusal says nothing of what an accepted packet holds
-pub refuses : (p : List ℕ) (r : Checked) (a : Answer) → r .answer ≡ a → eqb (a .number) 0 ≡ false → refusedPacket a ≡ packetRead p
-    → (r .answer ≡ packetRead p .answer) × (eqb (r .answer .number) 0 ≡ true → r ≡ checkedShown p)
-refuses p r a e wrong h = (e ∙ ap (λ (q : PacketRead). q .answer) h, λ right. absurd (true≢false (sym right ∙ rw e wrong)))
+-- a packet before its list is made: the same answer, and what an accepted one holds
+abbrev checkedGiven : Verdict → ℕ → Checked → Checked
+checkedGiven v length shown = ifClear v shown (refusedChecked (answer v length))
+
+checked-refused : (v : Verdict) (length : ℕ) (shown : Checked) (a : Answer) → a ≡ answer v length
+    → eqb (a .number) 0 ≡ false → refusedChecked a ≡ checkedGiven v length shown
+checked-refused clear length shown a e h = absurd (true≢false (ap (λ (b : Answer). eqb (b .number) 0) (sym e) ∙ h))
+checked-refused (broken why) length shown a e h = ap refusedChecked e
+
+checked-done : (v : Verdict) (length : ℕ) (shown : Checked) → eqb (answer v length .number) 0 ≡ true → checkedGiven v length shown ≡ shown
+checked-done clear length shown h = refl
+checked-done (broken why) length shown h = absurd (true≢false (sym h ∙ refused-not-done why))
+
+checked-answer : (v : Verdict) (length : ℕ) (shown : Checked) → shown .answer ≡ done length → checkedGiven v length shown .answer ≡ answer v length
+checked-answer clear length shown e = e
+checked-answer (broken why) length shown e = refl
+
+module _ (p : List ℕ) where
+  pub refuses : (r : Checked) (a : Answer) → r ≡ refusedChecked a → eqb (a .number) 0 ≡ false → refusedPacket a ≡ packetRead p → r ≡ checkedRead p
+  unfolding packetRead checkedRead
+  refuses r a e wrong h =
+      e ∙ checked-refused (verdict (packetChecks p)) (captionLength p) (checkedShown p) a (ap (λ (q : PacketRead). q .answer) h) wrong
+
+  pub checks-answer : checkedRead p .answer ≡ packetRead p .answer
+  unfolding packetRead checkedRead
+  checks-answer = checked-answer (verdict (packetChecks p)) (captionLength p) (checkedShown p) refl
+
+  pub accepts : eqb (packetRead p .answer .number) 0 ≡ true → checkedRead p ≡ checkedShown p
+  unfolding packetRead checkedRead
+  accepts h = checked-done (verdict (packetChecks p)) (captionLength p) (checkedShown p) h
 
 -- five lists of checks, one after the other
 five-parts : (a b c d e : List Check)

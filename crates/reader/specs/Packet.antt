@@ -4,6 +4,7 @@ use Prim.Native.Nat.{ℕ, _+_}
 use lib.ListN.{length}
 use Rattle.basis.specs.Answer.{done}
 use Rattle.basis.specs.Check.{Check, when, sizeWhen, verdict, answer, ifClear}
+use Rattle.values.specs.Flags.{noFlags}
 use Rattle.values.specs.Rate.{noRate}
 use Rattle.times.specs.Time.{timeAbsent, timeSize}
 use Rattle.services.specs.ServiceList.{listAbsent}
@@ -66,7 +67,7 @@ shownBy p =
     (sequenceIn p)
     (svcInfoOf p (flagsIn p) (svcInfoAt p))
 
--- what is known of an accepted packet before its service list is made
+-- what is known of an accepted packet before its service list is made; of a refused one, the answer alone
 abbrev pub checkedShown : List ℕ → Checked
 checkedShown p =
     record {
@@ -78,6 +79,23 @@ checkedShown p =
       «cc_data_at» = ccDataAt p;
       «svc_info_at» = svcInfoAt p;
     }
+
+abbrev pub refusedChecked : Answer → Checked
+refusedChecked a =
+    record {
+      answer = a;
+      framerate = noRate;
+      «time_code» = timeAbsent;
+      sequence = 0;
+      flags = noFlags;
+      «cc_data_at» = 0;
+      «svc_info_at» = 0;
+    }
+
+unfoldable pub checkedRead : List ℕ → Checked
+checkedRead p =
+    let v = verdict (packetChecks p) in
+    ifClear v (checkedShown p) (refusedChecked (answer v (captionLength p)))
 
 -- what reading a packet gives, with no state and no buffer
 unfoldable pub packetRead : List ℕ → PacketRead

@@ -1,8 +1,6 @@
 // Rules 2 to 9, one after the other: whether a packet is accepted, and all that it holds but its service list.
-ghost use mathlib.Core.Bool.{true};
 ghost use mathlib.Core.Path.{_≡_};
-ghost use lib.Dec.{eqb};
-ghost use Rattle.reader.specs.Packet.{checkedShown, packetRead, state};
+ghost use Rattle.reader.specs.Packet.{checkedRead, refusedChecked, state};
 ghost use Rattle.svc_section.specs.SvcInfo.{svcInfoShown};
 use crate::parser::CDPParser;
 use basis::Answer;
@@ -11,7 +9,7 @@ use sections::Header;
 use sections::TimeCodeSection;
 use sections::cc_data;
 use svc_section::SvcInfoSection;
-use svc_section::svc_info_shown;
+use svc_section::svc_info_untested;
 use times::MaybeTimeCode;
 use values::Flags;
 use values::MaybeFramerate;
@@ -28,8 +26,9 @@ pub struct Checked {
 }
 
 impl Checked {
+    // Nothing but the answer.
     fn refused(answer: Answer) -> Self
-        ensures { λ r. ⌜ r .answer ≡ answer ⌝ }
+        ensures { λ r. ⌜ r ≡ refusedChecked answer ⌝ }
     {
         Self {
             answer,
@@ -44,8 +43,7 @@ impl Checked {
 
     // Each section begins where the one before it ends.
     pub fn parse(packet: &[u8]) -> Self
-        ensures { λ r. ⌜ r .answer ≡ packetRead (now (packet .entry)) .answer ⌝ }
-        ensures { λ r. ⌜ (eqb (r .answer .number) 0 ≡ true → r ≡ checkedShown (now (packet .entry))) ⌝ }
+        ensures { λ r. ⌜ r ≡ checkedRead (now (packet .entry)) ⌝ }
     {
         let header = Header::parse(packet);
         let header_answer = header.answer;
@@ -98,7 +96,7 @@ impl Checked {
             framerate,
             time_code,
             sequence: self.sequence,
-            service_info: svc_info_shown(packet, flags, self.svc_info_at),
+            service_info: svc_info_untested(packet, flags, self.svc_info_at),
         }
     }
 }

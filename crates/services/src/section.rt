@@ -5,7 +5,7 @@ use crate::list::ServiceInfo;
 use basis::Answer;
 use entries::ServiceEntry;
 use svc_entries::byte;
-use svc_entries::entries_of;
+use svc_entries::entries_untested;
 use svc_entries::read_entries;
 
 // What reading gives: beside a refusal, the empty list.
@@ -42,10 +42,10 @@ impl ServiceInfo {
     }
 
     // The list that a section's bytes hold, whatever their fixed bits are; no bytes hold the empty list.
-    pub fn of_bytes(data: &[u8]) -> Self
+    pub fn untested(data: &[u8]) -> Self
         ensures { λ r. ⌜ r ≡ Section.listOf (now («data» .entry)) ⌝ }
     {
-        Self::with(byte(data, 1), entries_of(data))
+        Self::with(byte(data, 1), entries_untested(data))
     }
 
     // The list that a section's byte 1 and these places make.

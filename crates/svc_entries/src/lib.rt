@@ -3,6 +3,6 @@ mod section;
 
 pub use section::EntriesRead;
 pub use section::byte;
-pub use section::entries_of;
+pub use section::entries_untested;
 pub use section::fillers;
 pub use section::read_entries;

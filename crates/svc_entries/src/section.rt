@@ -81,13 +81,13 @@ fn entries(data: &[u8], header: u8) -> EntriesRead
 }
 
 // The entries that a section's bytes hold, whatever their fixed bits are; bytes past the end are zeros.
-pub fn entries_of(data: &[u8]) -> [ServiceEntry; 15]
+pub fn entries_untested(data: &[u8]) -> [ServiceEntry; 15]
     ensures { λ r. ⌜ r ≡ Entries.filled (Entries.entriesOf (now («data» .entry)) 2 (Entries.countOf (now («data» .entry)))) ⌝ }
 {
     let count = (byte(data, 1) % 16) as usize;
     let mut services = fillers();
     for k in 0..count {
-        let entry = ServiceEntry::of_bytes(six_behind(data, 2 + 7 * k));
+        let entry = ServiceEntry::untested(six_behind(data, 2 + 7 * k));
         services[k] = entry;
     }
     services

@@ -2,4 +2,4 @@
 mod svc_info;
 
 pub use svc_info::SvcInfoSection;
-pub use svc_info::svc_info_shown;
+pub use svc_info::svc_info_untested;

@@ -103,14 +103,14 @@ impl Span {
 }
 
 // The list of the section at a place, whatever its fixed bits are, or none where there is no section.
-pub fn svc_info_shown(packet: &[u8], flags: Flags, at: u8) -> MaybeServiceInfo
+pub fn svc_info_untested(packet: &[u8], flags: Flags, at: u8) -> MaybeServiceInfo
     ensures { λ r. ⌜ r ≡ svcInfoShown (now (packet .entry)) flags at ⌝ }
 {
     let span = Span::of(packet, flags, at);
     let from = span.from;
     let to = span.to;
     // No bytes hold the empty list.
-    let service_info = ServiceInfo::of_bytes(&packet[from..to]);
+    let service_info = ServiceInfo::untested(&packet[from..to]);
     MaybeServiceInfo {
         present: span.present,
         service_info,

@@ -2,7 +2,7 @@
 -- Assumes nothing.
 use mathlib.Core.Bool.{true}
 use mathlib.Core.List.{List}
-use mathlib.Core.Path.{_≡_, _∙_, sym, ap, refl}
+use mathlib.Core.Path.{_≡_, _∙_, sym, ap}
 use Prim.Native.Nat.{ℕ}
 use native.Mathlib.Omega.{arith}
 use borrow.Author.Tests.{not-true, not-false}
@@ -12,7 +12,7 @@ use Rattle.sections.specs.Header.{headerRead}
 use Rattle.reader.specs.Packet.{captionLength, refusedPacket}
 use Rattle.basis.specs.Answer.{done}
 use Rattle.reader.specs.declared.packet.PacketRead.{PacketRead}
-use Rattle.reader.proofs.PacketReads.{captionsAsked, cc-data-is, cc-data-near, cc-data-refused, closing-near, closing-refused, header-is, header-refused, headerShown, servicesAsked, packet-whole, refuses, servicesShown, svc-info-is, svc-info-near, svc-info-refused, time-code-is, time-code-refused, timeAsked, timeShown}
+use Rattle.reader.proofs.PacketReads.{accepts, captionsAsked, cc-data-is, cc-data-near, cc-data-refused, closing-near, closing-refused, header-is, header-refused, headerShown, servicesAsked, packet-whole, refuses, servicesShown, svc-info-is, svc-info-near, svc-info-refused, time-code-is, time-code-refused, timeAsked, timeShown}
 use borrow.Author.Needs.{needs}
 use Rattle.reader.proofs.checked.Checked.parse.Statement.{statement}
 use Rattle.reader.proofs.checked.Checked.parse.Tie as tie
@@ -189,7 +189,8 @@ returns-6 c =
     let i = svc-info-result v in
     let e = rw (h, time, d, i) at (c .before .before .before .before .closing .ensures) in
     let right = rw e at (sym (c .before .before .before .is-done5 .ensures) ∙ not-false _ (c .before .before .if5 .left)) in
-    rw (h, time, d) (ap (λ (r : PacketRead). r .answer) (packet-whole _ (header-kept s) (time-code-kept t) (cc-data-kept u) (svc-info-kept v) right), λ _. refl)
+    let whole = packet-whole _ (header-kept s) (time-code-kept t) (cc-data-kept u) (svc-info-kept v) right in
+    rw (h, time, d) (sym (accepts _ (ap (λ (r : PacketRead). eqb (r .answer .number) 0) (sym whole))))
 
 pub parse-spec : {M : Type 1} → statement M
 parse-spec =

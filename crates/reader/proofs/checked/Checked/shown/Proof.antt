@@ -4,11 +4,11 @@ use borrow.Author.Needs.{needs}
 use Rattle.reader.proofs.checked.Checked.shown.Statement.{statement}
 use Rattle.reader.proofs.checked.Checked.shown.Tie as tie
 
-svc-info-shown-requires : tie.Need-svc-info-shown-requires
-svc-info-shown-requires c κs = search needs
+svc-info-untested-requires : tie.Need-svc-info-untested-requires
+svc-info-untested-requires c κs = search needs
 
 returns : tie.Need-returns
-returns c = rw (c .svc-info-shown .ensures)
+returns c = rw (c .svc-info-untested .ensures)
 
 pub shown-spec : {M : Type 1} → statement M
-shown-spec = tie.close (tie.spec svc-info-shown-requires returns)
+shown-spec = tie.close (tie.spec svc-info-untested-requires returns)

@@ -3,7 +3,8 @@
 use mathlib.Core.Path.{_∙_, sym, ap}
 use borrow.Author.Tests.{not-true, not-false}
 use Rattle.reader.specs.Packet.{refusedPacket}
-use Rattle.reader.proofs.PacketReads.{all-shown, none-shown}
+use Rattle.reader.proofs.PacketReads.{accepts, all-shown, checks-answer, none-shown}
+use Rattle.reader.specs.declared.checked.Checked.{Checked}
 use borrow.Author.Needs.{needs}
 use Rattle.reader.proofs.packet.PacketRead.parse.Statement.{statement}
 use Rattle.reader.proofs.packet.PacketRead.parse.Tie as tie
@@ -19,7 +20,7 @@ refused-requires c κs = search needs
 
 returns : tie.Need-returns
 returns c =
-    let e = c .before .before .before .before .parse .ensures .0 in
+    let e = ap (λ (r : Checked). r .answer) (c .before .before .before .before .parse .ensures) ∙ checks-answer _ in
     c .refused .ensures ∙ ap refusedPacket e ∙ none-shown _ (rw e at (sym (c .before .before .is-done .ensures) ∙ not-true _ (c .before .if1 .taken)))
 
 shown-requires : tie.Need-shown-requires
@@ -28,8 +29,8 @@ shown-requires c κs = search needs
 returns-2 : tie.Need-returns-2
 returns-2 c =
     let checked = c .before .before .before .before .parse .ensures in
-    let right = sym (c .before .before .is-done .ensures) ∙ not-false _ (c .before .if1 .left) in
-    rw (c .shown .ensures, checked .1 right) (all-shown _ (rw (checked .0) at right))
+    let right = rw (ap (λ (r : Checked). r .answer) checked ∙ checks-answer _) at (sym (c .before .before .is-done .ensures) ∙ not-false _ (c .before .if1 .left)) in
+    rw (c .shown .ensures, checked ∙ accepts _ right) (all-shown _ right)
 
 pub parse-spec : {M : Type 1} → statement M
 parse-spec =

@@ -1,9 +1,11 @@
 -- `reader::CDPParser::parse` is rule 1, then the packet, then what it leaves.
 -- Assumes nothing.
-use mathlib.Core.Path.{_∙_, sym}
+use mathlib.Core.Path.{_∙_, sym, ap}
 use native.Mathlib.Omega.{arith}
 use borrow.Author.Tests.{not-true, not-false}
+use Rattle.reader.proofs.PacketReads.{accepts, checks-answer}
 use Rattle.reader.proofs.ReaderReads.{no-room, no-room-buffer, packet-refused, refused-buffer, packet-accepted, accepted-buffer}
+use Rattle.reader.specs.declared.checked.Checked.{Checked}
 use borrow.Author.Needs.{needs}
 use Rattle.reader.proofs.parser.CDPParser.parse.Statement.{statement}
 use Rattle.reader.proofs.parser.CDPParser.parse.Tie as tie
@@ -25,7 +27,7 @@ cleared-requires c κs = search needs
 
 returns-2 : tie.Need-returns-2
 returns-2 c =
-    let e = c .before .before .before .before .parse .ensures .0 in
+    let e = ap (λ (r : Checked). r .answer) (c .before .before .before .before .parse .ensures) ∙ checks-answer _ in
     let wrong = rw e at (sym (c .before .before .is-done .ensures) ∙ not-true _ (c .before .if2 .taken)) in
     (rw (c .cleared .ensures, e) (packet-refused _ _ _ (omega arith) wrong), refused-buffer _ _ (omega arith) wrong)
 
@@ -42,8 +44,8 @@ returns-3 : tie.Need-returns-3
 returns-3 c =
     let checked = c .before .before .before .before .before .before .before .before .before .parse .ensures in
     let done = sym (c .before .before .before .before .before .before .before .is-done .ensures) ∙ not-false _ (c .before .before .before .before .before .before .if2 .left) in
-    let right = rw (checked .0) at done in
-    (rw (c .shown .ensures, checked .1 done) (packet-accepted _ _ _ (omega arith) right), c .before .before .before .hand-out .ensures ∙ rw (checked .1 done) (accepted-buffer _ _ (omega arith) right))
+    let right = rw (ap (λ (r : Checked). r .answer) checked ∙ checks-answer _) at done in
+    (rw (c .shown .ensures, checked ∙ accepts _ right) (packet-accepted _ _ _ (omega arith) right), c .before .before .before .hand-out .ensures ∙ rw (checked ∙ accepts _ right) (accepted-buffer _ _ (omega arith) right))
 
 pub parse-spec : {M : Type 1} → statement M
 parse-spec =

@@ -1,4 +1,4 @@
--- `svc_entries::entries_of`: after k turns the first k places have what the first k entries hold.
+-- `svc_entries::entries_untested`: after k turns the first k places have what the first k entries hold.
 -- Assumes nothing.
 use mathlib.Core.Path.{_≡_, _∙_, refl}
 use Prim.Native.Nat.{_≤_, _-_}
@@ -6,8 +6,8 @@ use lib.ListN.{length, length-set}
 use native.Mathlib.Omega.{arith}
 use borrow.Author.Needs.{needs}
 use Rattle.svc_entries.proofs.SectionReads.{firstRead, first-none, first-more, first-all}
-use Rattle.svc_entries.proofs.section.entries_of.Statement.{statement}
-use Rattle.svc_entries.proofs.section.entries_of.Tie as tie
+use Rattle.svc_entries.proofs.section.entries_untested.Statement.{statement}
+use Rattle.svc_entries.proofs.section.entries_untested.Tie as tie
 
 abbrev Inv-loop : tie.InvT-loop
 Inv-loop «data» count services₀ k₀ services k = (k ≤ count) × (length services ≡ 15) × (services ≡ firstRead «data» k)
@@ -36,8 +36,8 @@ add-six-behind c = search needs
 six-behind-requires : tie.Need-six-behind-requires Inv-loop μ-loop
 six-behind-requires c κs = search needs
 
-of-bytes-requires : tie.Need-of-bytes-requires Inv-loop μ-loop
-of-bytes-requires c κs = search needs
+untested-requires : tie.Need-untested-requires Inv-loop μ-loop
+untested-requires c κs = search needs
 
 mul-services : tie.Need-mul-services Inv-loop μ-loop
 mul-services c = search needs
@@ -54,13 +54,13 @@ loop-less c = search needs
 loop-again : tie.Need-loop-again Inv-loop μ-loop
 loop-again c =
     let inv = c .before .before .before .loop .inv in
-    (omega arith, simp length-set (inv .1), rw (inv .2, c .of-bytes .ensures, c .before .six-behind .ensures) (first-more _ _ (omega arith)))
+    (omega arith, simp length-set (inv .1), rw (inv .2, c .untested .ensures, c .before .six-behind .ensures) (first-more _ _ (omega arith)))
 
 returns : tie.Need-returns Inv-loop μ-loop
 returns c = c .before .loop .inv .2 ∙ first-all _ _ (omega (arith, c .before .before .before .byte .ensures))
 
-pub entries-of-spec : {M : Type 1} → statement M
-entries-of-spec =
+pub entries-untested-spec : {M : Type 1} → statement M
+entries-untested-spec =
     tie.close
     (tie.spec
     Inv-loop
@@ -72,7 +72,7 @@ entries-of-spec =
     mul-six-behind
     add-six-behind
     six-behind-requires
-    of-bytes-requires
+    untested-requires
     mul-services
     array-set-from-services
     add-k

@@ -1,8 +1,8 @@
--- `entries::ServiceEntry::of_bytes`: the language as it stands, and what bytes 3 and 4 name.
+-- `entries::ServiceEntry::untested`: the language as it stands, and what bytes 3 and 4 name.
 -- Assumes nothing.
 use borrow.Author.Needs.{needs}
-use Rattle.entries.proofs.entry.ServiceEntry.of_bytes.Statement.{statement}
-use Rattle.entries.proofs.entry.ServiceEntry.of_bytes.Tie as tie
+use Rattle.entries.proofs.entry.ServiceEntry.untested.Statement.{statement}
+use Rattle.entries.proofs.entry.ServiceEntry.untested.Tie as tie
 
 array-read-t5 : tie.Need-array-read-t5
 array-read-t5 c = search needs
@@ -25,8 +25,8 @@ service-of-requires c κs = search needs
 returns : tie.Need-returns
 returns c = rw (c .service-of .ensures)
 
-pub of-bytes-spec : {M : Type 1} → statement M
-of-bytes-spec =
+pub untested-spec : {M : Type 1} → statement M
+untested-spec =
     tie.close
     (tie.spec
     array-read-t5
