@@ -1,18 +1,19 @@
 // The packet, read again and again by one reader.
 use crate::print;
 use reader::CDPParser;
-use reader::CDPParserRead;
 use std::num::wrapping_add_u8;
 use std::num::wrapping_add_u64;
 use values::Packet;
 
+// No turn reads the same packet as the one before.
 pub fn turns(packet: &mut [u8], turns: u64, captions: &mut [u8]) {
     let mut parser = CDPParser::new();
     let mut answers = 0;
     let mut length = 0;
     let mut left = turns;
     while left > 0 {
-        let read = turn(parser, packet, captions);
+        advance(packet);
+        let read = parser.parse(packet, captions);
         parser = read.parser;
         answers = wrapping_add_u64(answers, read.answer.number as u64);
         length = read.answer.first;
@@ -23,12 +24,6 @@ pub fn turns(packet: &mut [u8], turns: u64, captions: &mut [u8]) {
     print::number(b"sequence ", parser.sequence as u64);
     print::number(b"services ", parser.service_info.service_info.count as u64);
     print::sum(b"captions ", captions);
-}
-
-// No turn reads the same packet as the one before.
-fn turn(parser: CDPParser, packet: &mut [u8], captions: &mut [u8]) -> CDPParserRead {
-    advance(packet);
-    parser.parse(packet, captions)
 }
 
 // The next sequence in header and footer; the checksum changes with it, so that a right one stays right and a wrong one

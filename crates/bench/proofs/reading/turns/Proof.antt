@@ -20,8 +20,11 @@ new-requires c κs = search needs
 loop-holds : tie.Need-loop-holds Inv-loop μ-loop
 loop-holds c = search needs
 
-turn-requires : tie.Need-turn-requires Inv-loop μ-loop
-turn-requires c κs = search needs
+advance-requires : tie.Need-advance-requires Inv-loop μ-loop
+advance-requires c κs = search needs
+
+parse-requires : tie.Need-parse-requires Inv-loop μ-loop
+parse-requires c κs = search needs
 
 cast-wrapping-add-u64 : tie.Need-cast-wrapping-add-u64 Inv-loop μ-loop
 cast-wrapping-add-u64 c = search needs
@@ -88,7 +91,8 @@ turns-spec =
     μ-loop
     new-requires
     loop-holds
-    turn-requires
+    advance-requires
+    parse-requires
     cast-wrapping-add-u64
     wrapping-add-u64-requires
     sub-left
