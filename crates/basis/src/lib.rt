@@ -5,4 +5,5 @@ mod buffer;
 
 pub use answer::Answer;
 pub use bits::flag;
+pub use buffer::byte;
 pub use buffer::put;

@@ -3,8 +3,8 @@ ghost use mathlib.Core.Path.{_≡_};
 ghost use Rattle.services.specs.Section as Section;
 use crate::list::ServiceInfo;
 use basis::Answer;
+use basis::byte;
 use entries::ServiceEntry;
-use svc_entries::byte;
 use svc_entries::entries_untested;
 use svc_entries::read_entries;
 

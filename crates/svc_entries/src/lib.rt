@@ -2,7 +2,6 @@
 mod section;
 
 pub use section::EntriesRead;
-pub use section::byte;
 pub use section::entries_untested;
 pub use section::fillers;
 pub use section::read_entries;

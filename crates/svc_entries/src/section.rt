@@ -3,9 +3,9 @@ ghost use mathlib.Core.Path.{_≡_};
 ghost use Prim.Native.Nat.{_+_, _≤_};
 ghost use lib.ListN.{length};
 ghost use Rattle.svc_entries.specs.Entries as Entries;
-ghost use Rattle.basis.specs.Bytes as Bytes;
 ghost use Rattle.entries.specs.Service as Service;
 use basis::Answer;
+use basis::byte;
 use entries::FieldOrService;
 use entries::ServiceEntry;
 use entries::ServiceEntryRead;
@@ -106,13 +106,6 @@ fn six_behind(data: &[u8], at: usize) -> [u8; 6]
         byte(data, at + 5),
         byte(data, at + 6),
     ]
-}
-
-// The byte at a place, 0 past the end.
-pub fn byte(data: &[u8], at: usize) -> u8
-    ensures { λ r. ⌜ r ≡ Bytes.byte (now («data» .entry)) at ⌝ }
-{
-    if at < data.len() { data[at] } else { 0 }
 }
 
 // Reads the header byte at a place and the entry behind it.

@@ -4,9 +4,9 @@ ghost use Prim.Native.Nat.{_≤_};
 ghost use lib.ListN.{length};
 ghost use Rattle.svc_section.specs.SvcInfo.{noSvcInfo, sameFlags, spanOf, svcInfoRead, svcInfoShown, svcInfoSize, svcInfoThere};
 use basis::Answer;
+use basis::byte;
 use services::MaybeServiceInfo;
 use services::ServiceInfo;
-use svc_entries::byte;
 use values::Flags;
 use values::Packet;
 

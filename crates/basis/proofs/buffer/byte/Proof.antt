@@ -1,12 +1,12 @@
--- `svc_entries::section::byte`: past the end there is no byte, which reads as 0.
+-- `basis::byte`: past the end there is no byte, which reads as 0.
 -- Assumes nothing.
 use mathlib.Core.Path.{sym}
 use native.Mathlib.Omega.{arith}
 use denote.Ref.{now}
 use lib.ListN.{List·getD-eq-default}
 use borrow.Author.Needs.{needs}
-use Rattle.svc_entries.proofs.section.byte.Statement.{statement}
-use Rattle.svc_entries.proofs.section.byte.Tie as tie
+use Rattle.basis.proofs.buffer.byte.Statement.{statement}
+use Rattle.basis.proofs.buffer.byte.Tie as tie
 
 shared-slice-read-result : tie.Need-shared-slice-read-result
 shared-slice-read-result c = search needs
