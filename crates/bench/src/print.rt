@@ -21,6 +21,7 @@ pub fn sum(name: &[u8], bytes: &[u8]) {
     number(name, total);
 }
 
+// An argument is known to be a byte, so that the cast needs no proof of its own.
 fn wide(byte: u8) -> u64 {
     byte as u64
 }

@@ -1,24 +1,29 @@
 -- The first demand holds: every answer is that of a verdict, and a broken verdict leaves a buffer as it was.
 -- Assumes nothing.
-use mathlib.Core.Bool.{true, false}
+use mathlib.Core.Bool.{true}
 use mathlib.Core.List.{List, [], _∷_, _++_}
 use mathlib.Core.Path.{_≡_, refl, sym}
 use Prim.Native.Nat.{ℕ}
-use lib.Dec.{eqb, ltb}
+use lib.Dec.{ltb}
 use lib.ListN.{length}
 use Rattle.basis.proofs.Verdicts.{refused-shows}
 use Rattle.basis.specs.Answer as Table
-use Rattle.basis.specs.Check.{Verdict, answer, broken, check, clear, verdict}
+use Rattle.basis.specs.Check.{Verdict, answer, broken, check, clear, sizeWhen, verdict, when}
 use Rattle.basis.specs.Bytes.{over}
 use Rattle.times.specs.Time as Time
 use Rattle.entries.specs.Entry as Entry
 use Rattle.entries.specs.Writing.{entryBytes, entryCheck, entryWritten, roomCheck, written}
 use Rattle.services.specs.Section as Section
-use Rattle.svc_entries.specs.Entries.{places, sectionChecks, sectionLength}
+use Rattle.svc_entries.specs.Entries.{entriesRead, places, sectionChecks, sectionLength}
 use Rattle.services.specs.ServiceList.{countCheck}
 use Rattle.services.specs.Writing.{sectionBytes, sectionWritten, valueAnswer, valueChecks}
 use Rattle.reader.proofs.Refusals as Refusals
-use Rattle.reader.specs.Packet.{captionLength}
+use Rattle.sections.specs.CcData as CcData
+use Rattle.sections.specs.Header as Header
+use Rattle.sections.specs.TimeCode as TimeCode
+use Rattle.footer.specs.Footer as Footer
+use Rattle.svc_section.specs.SvcInfo as SvcInfo
+use Rattle.reader.specs.Packet.{captionLength, packetChecks, packetRead}
 use Rattle.reader.specs.Reader.{read, readChecks}
 use Rattle.packing.proofs.PacketWrites as PacketWrites
 use Rattle.packing.specs.Writing as Writing
@@ -62,13 +67,20 @@ abbrev entryVerdict : ServiceEntry → List ℕ → Verdict
 entryVerdict e buffer = verdict (entryCheck e ∷ roomCheck 6 buffer ∷ [])
 
 pub first-demand : FirstDemand
-unfolding read Section.sectionRead Entry.entryRead Time.timeRead Time.timeWritten Writing.packetWritten sectionWritten entryWritten valueAnswer setServiceInfo
+unfolding read packetRead Header.headerRead TimeCode.timeCodeRead CcData.ccDataRead SvcInfo.svcInfoRead Footer.closingRead entriesRead Section.sectionRead Entry.entryRead Time.timeRead Time.timeWritten Writing.packetWritten sectionWritten entryWritten valueAnswer setServiceInfo
 first-demand =
     record {
       packetRead = λ s p room. in-table (verdict (readChecks p room)) (captionLength p);
       sectionRead = λ d. in-table (verdict (sectionChecks d)) 0;
       entryRead = λ bytes. in-table (verdict (Entry.entryChecks bytes)) 0;
       timeRead = λ hours minutes seconds frames. in-table (verdict (Time.timeChecks hours minutes seconds frames)) 0;
+      headerRead = λ p. in-table (verdict (Header.headerChecks p)) 0;
+      timeCodeRead = λ p present i. in-table (verdict (when present (TimeCode.timeCodeChecks p i))) (sizeWhen present Time.timeSize);
+      captionsRead = λ p present i. in-table (verdict (when present (CcData.ccDataChecks p i))) (sizeWhen present (CcData.ccDataSize p i));
+      servicesRead = λ p f i. in-table (verdict (when (f .«svc_info») (SvcInfo.svcInfoChecks p f i))) (sizeWhen (f .«svc_info») (SvcInfo.svcInfoSize p i));
+      closingRead = λ p sequence i. in-table (verdict (Footer.closingChecks p sequence i)) 0;
+      entriesRead = λ d. in-table (verdict (sectionChecks d)) 0;
+      statelessRead = λ p. in-table (verdict (packetChecks p)) (captionLength p);
       packetAnswered = λ w rate captions buffer. in-table (packetVerdict w rate captions buffer) (Writing.packetLength (w .«time_code») (w .«service_info») (length captions));
       sectionAnswered = λ l buffer. in-table (sectionVerdict l buffer) (length (sectionBytes l));
       entryAnswered = λ e buffer. in-table (entryVerdict e buffer) 6;
