@@ -19,16 +19,17 @@ use Rattle.values.specs.Packet.{servicesId}
 use Rattle.values.specs.Rate.{fromId}
 use Rattle.svc_entries.specs.Entries.{sectionChecks, sectionLength}
 use Rattle.services.specs.Section.{listOf, sectionRead}
-use Rattle.services.specs.ServiceList.{empty, listAbsent, listPresent}
-use Rattle.sections.specs.CcData.{ccDataChecks, ccDataSize, handedOut}
-use Rattle.sections.specs.Header.{flagsIn, rateOf, sequenceIn}
-use Rattle.sections.specs.TimeCode.{timeCodeChecks, timeCodeOf}
+use Rattle.services.specs.ServiceList.{empty}
+use Rattle.cc_section.specs.CcData.{ccDataChecks, ccDataSize, handedOut}
+use Rattle.header.specs.Header.{flagsIn, rateOf, sequenceIn}
+use Rattle.time_section.specs.TimeCode.{timeCodeChecks, timeCodeOf}
 use Rattle.footer.proofs.FooterFound.{checksum-kept}
 use Rattle.footer.specs.Footer.{checksumOf, closingChecks}
 use Rattle.svc_section.proofs.SvcInfoAlone.{FlagsOf, alone}
-use Rattle.svc_section.specs.SvcInfo.{svcInfoBytes, svcInfoChecks, svcInfoOf, svcInfoSize}
-use Rattle.reader.proofs.PacketReads.{closing-of-packet, in-order, svc-info-of-packet}
-use Rattle.reader.specs.Packet.{captionLength, ccDataAt, closingAt, footerAt, packetChecks, shownBy, state, svcInfoAt}
+use Rattle.svc_section.specs.SvcInfo.{listWhere, svcInfoChecks, svcInfoOf, svcInfoSize}
+use Rattle.checked.proofs.PacketReads.{closing-of-packet, in-order, svc-info-of-packet}
+use Rattle.checked.specs.Packet.{captionLength, ccDataAt, closingAt, footerAt, packetChecks, svcInfoAt}
+use Rattle.reader.specs.Shown.{shownBy, state}
 use Rattle.reader.specs.Reader.{captionsOf}
 use Rattle.altered.proofs.Outside.{Same, before, behind, captions-same, captions-size, closing-same, header-same, section-fits, time-same, time-shown}
 use Rattle.altered.proofs.Spans.{byte-part, bytes-same, count-at}
@@ -168,7 +169,7 @@ module _ (p q : List ℕ) (a : Altered p q) where
       cleared false off = refl
 
   list-new : svcInfoOf q (flagsIn q) (svcInfoAt q) ≡ newList p q
-  list-new = ap₂ (λ (b : Bool) (i : ℕ). cond b (listPresent (listOf (svcInfoBytes q i))) listAbsent) serviced services-at
+  list-new = ap₂ (λ (b : Bool) (i : ℕ). listWhere b q i) serviced services-at
 
   -- what stands behind the services, and the whole
   closing-verdict : closingChecks q (sequenceIn q) (closingAt q) ≡ closingChecks p (sequenceIn p) (closingAt p)

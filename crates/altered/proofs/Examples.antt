@@ -13,10 +13,11 @@ use Rattle.values.specs.Rate.{fromId}
 use Rattle.times.specs.Time.{digits}
 use Rattle.svc_entries.specs.Entries.{filled, sectionChecks}
 use Rattle.services.specs.Section.{listOf, sectionRead}
-use Rattle.sections.specs.Header.{flagsIn}
+use Rattle.header.specs.Header.{flagsIn}
 use Rattle.footer.specs.Footer.{closingChecks}
 use Rattle.svc_section.specs.SvcInfo.{sameFlags}
-use Rattle.reader.specs.Packet.{closingAt, packetChecks, shownBy, svcInfoAt}
+use Rattle.checked.specs.Packet.{closingAt, packetChecks, svcInfoAt}
+use Rattle.reader.specs.Shown.{shownBy}
 use Rattle.reader.specs.Reader.{bufferAfter, read}
 use Rattle.altered.specs.Alteration.{OtherSection, Put, captionsFrom, sectionIn}
 use Rattle.altered.specs.Examples.{Examples, before, spanish, withBoth, withCaptions′, withSpanish}

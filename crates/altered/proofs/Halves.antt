@@ -5,13 +5,14 @@ use mathlib.Core.Path.{_≡_, _∙_, sym, refl, ap, ap₂, subst}
 use Prim.Native.Nat.{ℕ}
 use Rattle.basis.proofs.Verdicts.{refused-not-done}
 use Rattle.basis.specs.Check.{Verdict, answer, broken, clear, verdict}
-use Rattle.reader.specs.Packet.{captionLength, packetChecks, shownBy}
+use Rattle.checked.specs.Packet.{captionLength, packetChecks}
+use Rattle.reader.specs.Shown.{shownBy}
 use Rattle.reader.specs.Reader.{captionsOf, cleared}
 use Rattle.altered.proofs.OneHalf.{captions-altered, captions-stay, list-stays, services-altered}
 use Rattle.altered.proofs.Sequences.{both-halves, cleared-with, given, reading-is}
 use Rattle.altered.specs.Alteration.{Altered, OtherCaptions, OtherServices}
 use Rattle.altered.specs.Sequence.{Shown, call, run}
-use Rattle.altered.specs.Twins.{Allowed, Excepted, Twin, Twins, after, altered, calls, exceptedAfter, firstOf, flushes, list, nothing, same, saveBoth, saveCaptions, saveList, secondOf, withCaptions, withList}
+use Rattle.altered.specs.Twins.{Allowed, Excepted, Twin, Twins, after, altered, calls, exceptedAfter, firstOf, flushes, nothing, same, saveBoth, saveCaptions, saveList, secondOf, withCaptions, withList}
 use Rattle.reader.specs.declared.parser.CDPParser.{CDPParser}
 
 -- sequences with one kind of alteration are sequences with a wider one

@@ -18,9 +18,9 @@ use Rattle.values.specs.Flags.{flagsOf}
 use Rattle.values.specs.Packet.{servicesId}
 use Rattle.svc_entries.specs.Entries.{countOf, sectionChecks, sectionLength}
 use Rattle.services.specs.Section.{sectionRead}
-use Rattle.sections.specs.Header.{flagsIn}
+use Rattle.header.specs.Header.{flagsIn}
 use Rattle.svc_section.specs.SvcInfo.{svcInfoSize}
-use Rattle.reader.specs.Packet.{closingAt, footerAt, packetChecks, svcInfoAt}
+use Rattle.checked.specs.Packet.{closingAt, footerAt, packetChecks, svcInfoAt}
 use Rattle.altered.proofs.Outside.{Same, further}
 use Rattle.altered.proofs.Spans.{byte-part, count-at, parts-same}
 use Rattle.altered.specs.Alteration.{OtherCaptions, OtherServices, Put, captionsFrom, mendedFlags, sectionIn}

@@ -14,12 +14,12 @@ use Rattle.values.specs.Flags.{flagsOf}
 use Rattle.svc_entries.specs.Entries.{countOf, sectionChecks, sectionLength}
 use Rattle.services.specs.Section.{listOf, sectionRead}
 use Rattle.services.specs.ServiceList.{listAbsent, listPresent}
-use Rattle.sections.specs.CcData.{ccCount, ccDataSize, handedOut}
-use Rattle.sections.specs.Header.{flagsIn}
+use Rattle.cc_section.specs.CcData.{ccCount, ccDataSize, handedOut}
+use Rattle.header.specs.Header.{flagsIn}
 use Rattle.svc_section.proofs.SvcInfoAlone.{FlagsOf, flags-kept, own-kept}
 use Rattle.svc_section.specs.SvcInfo.{svcInfoChecks, svcInfoSize}
-use Rattle.reader.proofs.PacketReads.{svc-info-of-packet}
-use Rattle.reader.specs.Packet.{ccDataAt, closingAt, svcInfoAt}
+use Rattle.checked.proofs.PacketReads.{svc-info-of-packet}
+use Rattle.checked.specs.Packet.{ccDataAt, closingAt, svcInfoAt}
 use Rattle.reader.specs.Reader.{captionsOf}
 use Rattle.altered.proofs.Outside.{Same, before, behind, section-fits}
 use Rattle.altered.proofs.Spans.{parts-same}

@@ -9,14 +9,13 @@ use borrow.Author.Tests.{eq-eqb}
 use lib.Dec.{eqb}
 use lib.ListN.{length}
 use Rattle.basis.specs.Bytes.{byte}
-use Rattle.basis.specs.Check.{sizeWhen, when}
-use Rattle.sections.specs.CcData.{ccDataChecks, ccDataSize}
-use Rattle.sections.specs.Header.{flagsIn, headerChecks}
-use Rattle.sections.specs.Section.{sizeCheck}
-use Rattle.sections.specs.TimeCode.{timeCodeChecks, timeCodeOf}
+use Rattle.basis.specs.Check.{sizeWhen, when, sizeCheck}
+use Rattle.cc_section.specs.CcData.{ccDataChecks, ccDataSize}
+use Rattle.header.specs.Header.{flagsIn, headerChecks}
+use Rattle.time_section.specs.TimeCode.{timeCodeChecks, timeCodeOf}
 use Rattle.footer.specs.Footer.{checksumOf, closingChecks, footerChecks, footerFrom, futureChecks, futureChecksAt, futureLength}
 use Rattle.svc_section.specs.SvcInfo.{svcInfoSize}
-use Rattle.reader.specs.Packet.{closingAt, svcInfoAt}
+use Rattle.checked.specs.Packet.{closingAt, svcInfoAt}
 use Rattle.altered.proofs.Spans.{bytes-same}
 use Rattle.altered.specs.Alteration.{Put}
 

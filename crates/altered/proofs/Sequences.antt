@@ -11,7 +11,8 @@ use Rattle.basis.proofs.Verdicts.{refused-not-done}
 use Rattle.basis.specs.Answer.{Refusal, done, refused}
 use Rattle.basis.specs.Check.{Verdict, answer, broken, clear, ifClear, verdict}
 use Rattle.reader.proofs.Refusals.{acceptance-hands-out}
-use Rattle.reader.specs.Packet.{captionLength, packetChecks, shownBy}
+use Rattle.checked.specs.Packet.{captionLength, packetChecks}
+use Rattle.reader.specs.Shown.{shownBy}
 use Rattle.reader.specs.Reader.{bufferAfter, captionsOf, cleared, read}
 use Rattle.altered.proofs.Acceptance.{accepted-too, captions-length, captions-new, shown-too}
 use Rattle.altered.specs.Alteration.{Altered, newList}

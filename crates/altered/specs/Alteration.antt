@@ -9,11 +9,11 @@ use Rattle.basis.specs.Bytes.{byte, part}
 use Rattle.basis.specs.Check.{clear, sizeWhen, verdict}
 use Rattle.svc_entries.specs.Entries.{countOf}
 use Rattle.services.specs.Section.{sectionRead}
-use Rattle.sections.specs.CcData.{handedOut}
-use Rattle.sections.specs.Header.{flagsIn}
+use Rattle.cc_section.specs.CcData.{handedOut}
+use Rattle.header.specs.Header.{flagsIn}
 use Rattle.footer.specs.Footer.{checksumOf}
 use Rattle.svc_section.specs.SvcInfo.{svcInfoBytes, svcInfoOf}
-use Rattle.reader.specs.Packet.{ccDataAt, closingAt, footerAt, packetChecks, svcInfoAt}
+use Rattle.checked.specs.Packet.{ccDataAt, closingAt, footerAt, packetChecks, svcInfoAt}
 use Rattle.services.specs.declared.list.MaybeServiceInfo.{MaybeServiceInfo}
 use Rattle.services.specs.declared.list.ServiceInfo.{ServiceInfo}
 use Rattle.values.specs.declared.flags.Flags.{Flags}

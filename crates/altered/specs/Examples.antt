@@ -6,7 +6,7 @@ use lib.ListN.{replicate}
 use Rattle.basis.specs.Answer.{ChecksumFailed, done, refused}
 use Rattle.services.specs.Section.{listOf}
 use Rattle.services.specs.ServiceList.{listAbsent, listPresent}
-use Rattle.reader.specs.Packet.{fresh}
+use Rattle.reader.specs.Shown.{fresh}
 use Rattle.altered.specs.Alteration.{Altered, OtherCaptions, OtherServices}
 use Rattle.altered.specs.Sequence.{Shown, run}
 use Rattle.altered.specs.Twins.{Twin, Twins, altered, calls, firstOf, flushes, same, secondOf}

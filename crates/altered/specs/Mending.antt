@@ -4,7 +4,7 @@ use Prim.Native.Nat.{ℕ, _-_}
 use lib.ListN.{length, take}
 use Rattle.basis.specs.Bytes.{over}
 use Rattle.footer.specs.Footer.{checksumOf}
-use Rattle.reader.specs.Packet.{svcInfoAt}
+use Rattle.checked.specs.Packet.{svcInfoAt}
 use Rattle.altered.specs.Alteration.{captionsFrom}
 
 -- the last byte made the checksum of all others

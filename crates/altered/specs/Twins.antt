@@ -4,7 +4,7 @@ use mathlib.Core.List.{List, [], _∷_}
 use Prim.Native.Nat.{ℕ, _≤_}
 use lib.Dec.{eqb}
 use lib.ListN.{length}
-use Rattle.reader.specs.Packet.{state}
+use Rattle.reader.specs.Shown.{state}
 use Rattle.reader.specs.Reader.{captionRoom}
 use Rattle.altered.specs.Alteration.{newCaptions, newList}
 use Rattle.altered.specs.Sequence.{Call, Shown, flush, packet}

@@ -2,7 +2,9 @@
 use mathlib.Core.Bool.{Bool, cond}
 use mathlib.Core.List.{List, [], _∷_}
 use Prim.Native.Nat.{ℕ}
-use Rattle.basis.specs.Answer.{Refusal, done, refused}
+use lib.Dec.{leb}
+use lib.ListN.{length}
+use Rattle.basis.specs.Answer.{LengthMismatch, Refusal, done, refused}
 use Rattle.basis.specs.declared.answer.Answer.{Answer}
 
 -- one rule at one place: whether it is kept, and what is answered where it is broken
@@ -12,6 +14,10 @@ pub record Check : Type 0 where
 
 abbrev pub check : Bool → Refusal → Check
 check kept refusal = record { kept = kept; refusal = refusal }
+
+-- at least so many bytes, or 1 with that and how many there are
+abbrev pub sizeCheck : List ℕ → ℕ → Check
+sizeCheck p least = check (leb least (length p)) (LengthMismatch least (length p))
 
 -- the checks and the size of a part that may be there
 abbrev pub when : Bool → List Check → List Check

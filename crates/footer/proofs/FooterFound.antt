@@ -12,9 +12,8 @@ use lib.ListN.{length}
 use Rattle.basis.proofs.Verdicts.{and-second, kept-first, kept-rest, verdict-append}
 use Rattle.basis.specs.Answer.{ChecksumFailed, SequenceCountMismatch, WrongMagic}
 use Rattle.basis.specs.Bytes.{byte}
-use Rattle.basis.specs.Check.{Check, check, clear, verdict}
+use Rattle.basis.specs.Check.{Check, check, clear, verdict, sizeCheck}
 use Rattle.values.specs.Sequence.{sequenceOf}
-use Rattle.sections.specs.Section.{sizeCheck}
 use Rattle.footer.specs.Footer.{checksumOf, closingChecks, footerFrom, futureChecks, futureChecksAt, futureLength}
 
 -- the two that are kept of a future section: the size of what stands behind it, and the checks from there on

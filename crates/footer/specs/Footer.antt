@@ -6,11 +6,10 @@ use lib.Dec.{eqb, leb}
 use lib.ListN.{length, take}
 use Rattle.basis.specs.Answer.{WrongMagic, SequenceCountMismatch, ChecksumFailed}
 use Rattle.basis.specs.Bytes.{byte}
-use Rattle.basis.specs.Check.{Check, check, verdict, answer}
+use Rattle.basis.specs.Check.{Check, check, verdict, answer, sizeCheck}
 use Rattle.values.specs.Checksum.{total, negative}
 use Rattle.values.specs.Packet.{footerId}
 use Rattle.values.specs.Sequence.{sequenceOf}
-use Rattle.sections.specs.Section.{sizeCheck}
 use Rattle.basis.specs.declared.answer.Answer.{Answer}
 
 -- L, the byte behind a future section's id

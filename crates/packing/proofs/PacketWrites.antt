@@ -12,9 +12,10 @@ use Rattle.basis.specs.Bytes.{over}
 use Rattle.basis.specs.Check.{Verdict, answer, clear, ifClear, verdict}
 use Rattle.entries.proofs.EntryWrites.{Leaves, all-fits, no-room, room-done, roomLast, values-refused}
 use Rattle.entries.specs.Writing.{Written, roomCheck, written}
-use Rattle.packing.proofs.Checks.{length-most, packetAsked}
+use Rattle.packet_checks.proofs.Tests.{length-most}
 use Rattle.packing.proofs.Parts.{packet-length}
-use Rattle.packing.specs.Writing.{packetBytes, packetChecks, packetLength, packetWritten}
+use Rattle.packet_checks.specs.Checks.{packetAsked, packetChecks, packetLength}
+use Rattle.packing.specs.Writing.{packetBytes, packetWritten}
 use Rattle.basis.specs.declared.answer.Answer.{Answer}
 use Rattle.values.specs.declared.framerate.Framerate.{Framerate}
 use Rattle.services.specs.declared.list.MaybeServiceInfo.{MaybeServiceInfo}

@@ -18,7 +18,8 @@ use Rattle.times.specs.Time.{timeBytes, timeWriteChecks, timeWritten}
 use Rattle.services.proofs.SectionWrites.{section-fits, section-length}
 use Rattle.svc_entries.specs.Entries.{sectionLength}
 use Rattle.services.specs.Writing.{sectionBytes, sectionWritten, valueChecks}
-use Rattle.packing.specs.Writing.{ccDataBytes, flagsOf, footerBytes, headerBytes, packetBytes, packetLength, svcInfoBytes, svcInfoChecks, svcInfoSize, timeCodeBytes, timeCodeChecks, timeCodeSize}
+use Rattle.packet_checks.specs.Checks.{packetLength, svcInfoChecks, svcInfoSize, timeCodeChecks, timeCodeSize}
+use Rattle.packing.specs.Writing.{ccDataBytes, flagsOf, footerBytes, headerBytes, packetBytes, svcInfoBytes, timeCodeBytes}
 use Rattle.services.specs.declared.list.MaybeServiceInfo.{MaybeServiceInfo}
 use Rattle.services.specs.declared.list.ServiceInfo.{ServiceInfo}
 use Rattle.values.specs.declared.flags.Flags.{Flags}

@@ -1,54 +1,22 @@
--- Writing a packet: the checks in their order, and the bytes.
-use mathlib.Core.Bool.{Bool, true, cond, _&&_}
+-- Writing a packet: its bytes, and what is left in the lent buffer.
+use mathlib.Core.Bool.{true, cond, _&&_}
 use mathlib.Core.List.{List, [], _∷_, _++_}
-use Prim.Native.Nat.{ℕ, _+_, _*_, _/_, _%_}
-use lib.Dec.{eqb, leb}
+use Prim.Native.Nat.{ℕ, _+_, _*_, _/_}
 use lib.ListN.{length}
-use Rattle.basis.specs.Answer.{UnknownFramerate, WrongCaptionRun}
 use Rattle.basis.specs.Bytes.{over}
-use Rattle.basis.specs.Check.{Check, check, when, sizeWhen, verdict, answer, ifClear}
+use Rattle.basis.specs.Check.{verdict, answer, ifClear}
 use Rattle.values.specs.Checksum.{total, negative}
 use Rattle.values.specs.Flags.{flagByte}
 use Rattle.values.specs.Packet.{timeCodeId, captionsId, footerId}
-use Rattle.values.specs.Rate.{known}
 use Rattle.values.specs.Sequence.{sequenceBytes}
-use Rattle.times.specs.Time.{timeBytes, timeSize, timeWriteChecks}
+use Rattle.times.specs.Time.{timeBytes}
 use Rattle.entries.specs.Writing.{Written, roomCheck}
-use Rattle.svc_entries.specs.Entries.{sectionLength}
-use Rattle.services.specs.Writing as Section
+use Rattle.services.specs.Writing.{sectionBytes}
+use Rattle.packet_checks.specs.Checks.{packetChecks, packetLength}
 use Rattle.services.specs.declared.list.MaybeServiceInfo.{MaybeServiceInfo}
 use Rattle.values.specs.declared.flags.Flags.{Flags}
 use Rattle.values.specs.declared.framerate.Framerate.{Framerate}
 use Rattle.times.specs.declared.time_code.MaybeTimeCode.{MaybeTimeCode}
-
--- a caption run has at most 93 bytes, three for each triplet
-abbrev pub fullTriplets : ℕ → Bool
-fullTriplets run = leb run 93 && eqb (run % 3) 0
-
--- what is not held is unread
-abbrev pub timeCodeChecks : MaybeTimeCode → List Check
-timeCodeChecks time = when (time .present) (timeWriteChecks (time .«time_code»))
-
-abbrev pub svcInfoChecks : MaybeServiceInfo → List Check
-svcInfoChecks services = when (services .present) (Section.valueChecks (services .«service_info»))
-
--- rate, caption run, time code, then count and entries of the list: whether a packet can be written at all
-abbrev pub packetChecks : Framerate → MaybeTimeCode → MaybeServiceInfo → ℕ → List Check
-packetChecks rate time services run =
-    check (known rate) UnknownFramerate
-    ∷ check (fullTriplets run) WrongCaptionRun
-    ∷ timeCodeChecks time
-    ++ svcInfoChecks services
-
--- the sizes of the parts: header, time code, captions, services, footer
-abbrev pub timeCodeSize : MaybeTimeCode → ℕ
-timeCodeSize time = sizeWhen (time .present) timeSize
-
-abbrev pub svcInfoSize : MaybeServiceInfo → ℕ
-svcInfoSize services = sizeWhen (services .present) (sectionLength (services .«service_info» .count))
-
-abbrev pub packetLength : MaybeTimeCode → MaybeServiceInfo → ℕ → ℕ
-packetLength time services run = 7 + timeCodeSize time + (2 + run) + svcInfoSize services + 4
 
 -- 40 is always set, with 02 and 01; 80 and 20 tell what is held, and the list's three flags stand in 10, 08 and 04
 abbrev pub flagsOf : MaybeTimeCode → MaybeServiceInfo → Flags
@@ -77,7 +45,7 @@ ccDataBytes captions = captionsId ∷ (0xE0 + length captions / 3) ∷ captions
 
 -- services, if held
 abbrev pub svcInfoBytes : MaybeServiceInfo → List ℕ
-svcInfoBytes services = cond (services .present) (Section.sectionBytes (services .«service_info»)) []
+svcInfoBytes services = cond (services .present) (sectionBytes (services .«service_info»)) []
 
 -- footer: 74 and the sequence again
 abbrev pub footerBytes : ℕ → List ℕ

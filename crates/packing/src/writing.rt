@@ -1,14 +1,16 @@
-// Writing a packet: the checks in their order, then the parts, one behind the other.
+// Writing a packet: its tests, its room, then the parts, one behind the other.
 ghost use mathlib.Core.Path.{_≡_};
 ghost use mathlib.Core.List.{_++_, _∷_, []};
 ghost use Prim.Native.Nat.{_+_, _≤_};
 ghost use lib.ListN.{length, take};
 ghost use Rattle.basis.specs.Bytes as Bytes;
-ghost use Rattle.basis.specs.Check.{verdict, answer, clear};
+ghost use Rattle.basis.specs.Check.{verdict, clear};
 ghost use Rattle.values.specs.Checksum.{total, negative};
+ghost use Rattle.packet_checks.specs.Checks as Checks;
 ghost use Rattle.packing.specs.Writing as Writing;
 use basis::Answer;
 use basis::put;
+use packet_checks::writable;
 use services::MaybeServiceInfo;
 use times::MaybeTimeCode;
 use values::Flags;
@@ -16,9 +18,6 @@ use values::Framerate;
 use values::Packet;
 use values::checksum_byte;
 use values::sequence_bytes;
-
-// The most captions that a packet can have: 31 triplets.
-const CAPTION_RUN: usize = 93;
 
 // Writes a packet at the start of the lent bytes.
 pub fn write_packet(
@@ -51,35 +50,6 @@ pub fn write_packet(
         out,
     );
     checked
-}
-
-// Whether a packet can be written, and how long it is.
-fn writable(
-    framerate: Framerate,
-    time_code: MaybeTimeCode,
-    service_info: MaybeServiceInfo,
-    run: usize,
-) -> Answer
-    ensures { λ r. ⌜ r ≡ answer (verdict (Writing.packetChecks framerate «time_code» «service_info» run)) (Writing.packetLength «time_code» «service_info» run) ⌝ }
-{
-    if !framerate.is_known() {
-        return Answer::UNKNOWN_FRAMERATE;
-    }
-    if CAPTION_RUN < run {
-        return Answer::WRONG_CAPTION_RUN;
-    }
-    if run % 3 != 0 {
-        return Answer::WRONG_CAPTION_RUN;
-    }
-    let timed = time_code_size(time_code);
-    if !timed.is_done() {
-        return timed;
-    }
-    let served = svc_info_size(service_info);
-    if !served.is_done() {
-        return served;
-    }
-    Answer::done(7 + timed.first + (2 + run) + served.first + 4)
 }
 
 // What the packet has: captions always, the others where they are held.
@@ -116,8 +86,8 @@ fn put_packet(
     size: usize,
     out: &mut [u8],
 )
-    requires { ⌜ verdict (Writing.packetChecks framerate «time_code» «service_info» (length (now captions))) ≡ clear ⌝ }
-    requires { ⌜ size ≡ Writing.packetLength «time_code» «service_info» (length (now captions)) ⌝ }
+    requires { ⌜ verdict (Checks.packetChecks framerate «time_code» «service_info» (length (now captions))) ≡ clear ⌝ }
+    requires { ⌜ size ≡ Checks.packetLength «time_code» «service_info» (length (now captions)) ⌝ }
     requires { ⌜ size ≤ length (now out) ⌝ }
     ensures { λ _. ⌜ now (out .exit) ≡ Bytes.over 0 (Writing.packetBytes framerate sequence «time_code» «service_info» (now (captions .entry))) (now (out .entry)) ⌝ }
 {
@@ -147,9 +117,9 @@ fn header_bytes(size: usize, framerate: Framerate, flags: Flags, sequence: u16) 
 }
 
 fn put_time_code(time_code: MaybeTimeCode, at: usize, out: &mut [u8]) -> usize
-    requires { ⌜ verdict (Writing.timeCodeChecks «time_code») ≡ clear ⌝ }
-    requires { ⌜ at + Writing.timeCodeSize «time_code» ≤ length (now out) ⌝ }
-    ensures { λ r. ⌜ r ≡ at + Writing.timeCodeSize «time_code» ⌝ }
+    requires { ⌜ verdict (Checks.timeCodeChecks «time_code») ≡ clear ⌝ }
+    requires { ⌜ at + Checks.timeCodeSize «time_code» ≤ length (now out) ⌝ }
+    ensures { λ r. ⌜ r ≡ at + Checks.timeCodeSize «time_code» ⌝ }
     ensures { λ _. ⌜ now (out .exit) ≡ Bytes.over at (Writing.timeCodeBytes «time_code») (now (out .entry)) ⌝ }
 {
     if !time_code.present {
@@ -178,9 +148,9 @@ fn put_cc_data(captions: &[u8], at: usize, out: &mut [u8]) -> usize
 }
 
 fn put_svc_info(service_info: MaybeServiceInfo, at: usize, out: &mut [u8]) -> usize
-    requires { ⌜ verdict (Writing.svcInfoChecks «service_info») ≡ clear ⌝ }
-    requires { ⌜ at + Writing.svcInfoSize «service_info» ≤ length (now out) ⌝ }
-    ensures { λ r. ⌜ r ≡ at + Writing.svcInfoSize «service_info» ⌝ }
+    requires { ⌜ verdict (Checks.svcInfoChecks «service_info») ≡ clear ⌝ }
+    requires { ⌜ at + Checks.svcInfoSize «service_info» ≤ length (now out) ⌝ }
+    ensures { λ r. ⌜ r ≡ at + Checks.svcInfoSize «service_info» ⌝ }
     ensures { λ _. ⌜ now (out .exit) ≡ Bytes.over at (Writing.svcInfoBytes «service_info») (now (out .entry)) ⌝ }
 {
     if !service_info.present {
@@ -201,33 +171,4 @@ fn put_footer(sequence: u16, at: usize, out: &mut [u8])
     let end = at + 3;
     let sum = [checksum_byte(&out[..end])];
     put(out, end, &sum);
-}
-
-// The time code's size, or 12 where it cannot be written.
-fn time_code_size(time_code: MaybeTimeCode) -> Answer
-    ensures { λ r. ⌜ r ≡ answer (verdict (Writing.timeCodeChecks «time_code»)) (Writing.timeCodeSize «time_code») ⌝ }
-{
-    if !time_code.present {
-        return Answer::done(0);
-    }
-    let written = time_code.time_code.to_bytes();
-    let checked = written.answer;
-    if !checked.is_done() {
-        return checked;
-    }
-    Answer::done(5)
-}
-
-// The section's size, or 10 or 12 where the list cannot be written.
-fn svc_info_size(service_info: MaybeServiceInfo) -> Answer
-    ensures { λ r. ⌜ r ≡ answer (verdict (Writing.svcInfoChecks «service_info»)) (Writing.svcInfoSize «service_info») ⌝ }
-{
-    if !service_info.present {
-        return Answer::done(0);
-    }
-    let checked = service_info.service_info.writable();
-    if !checked.is_done() {
-        return checked;
-    }
-    service_info.service_info.byte_len()
 }

@@ -1,4 +1,3 @@
-pub mod Answers
-pub mod PacketReads
+pub mod PacketShown
 pub mod ReaderReads
 pub mod Refusals

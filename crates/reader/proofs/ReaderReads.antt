@@ -12,13 +12,15 @@ use Rattle.basis.proofs.Verdicts.{done-clear, refused-shows, when-there}
 use Rattle.basis.specs.Answer.{BufferTooShort, done, refused}
 use Rattle.basis.specs.Bytes.{over}
 use Rattle.basis.specs.Check.{Verdict, answer, clear, ifClear, sizeWhen, verdict}
-use Rattle.sections.proofs.CcDataReads.{captions-there, handed-long, handed-over, nothing-out}
-use Rattle.sections.specs.CcData.{ccDataChecks, ccDataSize, handOut, handedOut}
-use Rattle.sections.specs.Header.{flagsIn, rateOf, sequenceIn}
-use Rattle.sections.specs.TimeCode.{timeCodeOf}
+use Rattle.cc_section.proofs.CcDataReads.{captions-there, handed-long, handed-over, nothing-out}
+use Rattle.cc_section.specs.CcData.{ccDataChecks, ccDataSize, handOut, handedOut}
+use Rattle.header.specs.Header.{flagsIn, rateOf, sequenceIn}
+use Rattle.time_section.specs.TimeCode.{timeCodeOf}
 use Rattle.svc_section.specs.SvcInfo.{svcInfoShown}
-use Rattle.reader.proofs.PacketReads.{all-shown, cc-data-of-packet}
-use Rattle.reader.specs.Packet.{captionLength, ccDataAt, fresh, packetChecks, packetRead, shownBy, state, svcInfoAt}
+use Rattle.checked.proofs.PacketReads.{cc-data-of-packet}
+use Rattle.reader.proofs.PacketShown.{all-shown}
+use Rattle.checked.specs.Packet.{captionLength, ccDataAt, packetChecks, svcInfoAt}
+use Rattle.reader.specs.Shown.{fresh, packetRead, shownBy, state}
 use Rattle.reader.specs.declared.packet.PacketRead.{PacketRead}
 use Rattle.reader.specs.Reader.{bufferAfter, captionsOf, cleared, read}
 use Rattle.reader.specs.declared.parser.CDPParser.{CDPParser}

@@ -18,11 +18,12 @@ use Rattle.values.specs.Rate.{noRate}
 use Rattle.times.specs.Time.{timeAbsent}
 use Rattle.footer.proofs.FooterFound.{checksum-kept}
 use Rattle.footer.specs.Footer.{checksumOf}
-use Rattle.sections.specs.Header.{sequenceIn}
-use Rattle.reader.proofs.Answers.{fine, not-eleven, packet-fine}
-use Rattle.reader.proofs.PacketReads.{closing-of-packet, size-of-packet}
+use Rattle.header.specs.Header.{sequenceIn}
+use Rattle.checked.proofs.Answers.{fine, not-eleven, packet-fine}
+use Rattle.checked.proofs.PacketReads.{closing-of-packet, size-of-packet}
 use Rattle.reader.proofs.ReaderReads.{captions-long}
-use Rattle.reader.specs.Packet.{captionLength, closingAt, footerAt, packetChecks, shownBy}
+use Rattle.checked.specs.Packet.{captionLength, closingAt, footerAt, packetChecks}
+use Rattle.reader.specs.Shown.{shownBy}
 use Rattle.reader.specs.Reader.{bufferAfter, captionRoom, captionsOf, cleared, read, readChecks}
 use Rattle.reader.specs.declared.parser.CDPParser.{CDPParser}
 use Rattle.reader.specs.declared.parser.CDPParserRead.{CDPParserRead}

@@ -1,2 +1,2 @@
-pub mod Packet
+pub mod Shown
 pub mod Reader

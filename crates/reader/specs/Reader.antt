@@ -9,9 +9,10 @@ use Rattle.basis.specs.Bytes.{over}
 use Rattle.basis.specs.Check.{Check, check, verdict, answer, ifClear}
 use Rattle.values.specs.Rate.{noRate}
 use Rattle.times.specs.Time.{timeAbsent}
-use Rattle.sections.specs.CcData.{handedOut}
-use Rattle.sections.specs.Header.{flagsIn}
-use Rattle.reader.specs.Packet.{ccDataAt, captionLength, fresh, packetChecks, shownBy, state}
+use Rattle.cc_section.specs.CcData.{handedOut}
+use Rattle.header.specs.Header.{flagsIn}
+use Rattle.checked.specs.Packet.{ccDataAt, captionLength, packetChecks}
+use Rattle.reader.specs.Shown.{fresh, shownBy, state}
 use Rattle.reader.specs.declared.parser.CDPParser.{CDPParser}
 use Rattle.reader.specs.declared.parser.CDPParserRead.{CDPParserRead}
 

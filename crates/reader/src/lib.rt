@@ -1,7 +1,7 @@
 // The packet reader: parser.rs of the Rust.
-mod checked;
 mod packet;
 mod parser;
+mod shown;
 
 pub use packet::PacketRead;
 pub use parser::CDPParser;

@@ -1,9 +1,10 @@
 // One packet, read with no state and no caption buffer.
 ghost use mathlib.Core.Path.{_≡_};
-ghost use Rattle.reader.specs.Packet.{packetRead, refusedPacket};
-use crate::checked::Checked;
+ghost use Rattle.reader.specs.Shown.{packetRead, refusedPacket};
 use crate::parser::CDPParser;
+use crate::shown::shown;
 use basis::Answer;
+use checked::Checked;
 
 // What reading gives: the answer, what an accepted packet makes the reader show, and where its captions stand. Beside a
 // refusal, what a new reader shows.
@@ -35,7 +36,7 @@ impl PacketRead {
         }
         Self {
             answer,
-            shown: read.shown(packet),
+            shown: shown(read, packet),
             cc_data_at: read.cc_data_at,
         }
     }

@@ -1,11 +1,12 @@
 // The reader: what it shows, and how a packet or a flush changes that.
 ghost use mathlib.Core.Path.{_≡_};
 ghost use lib.ListN.{length};
-ghost use Rattle.reader.specs.Packet.{fresh};
+ghost use Rattle.reader.specs.Shown.{fresh};
 ghost use Rattle.reader.specs.Reader as Reader;
-use crate::checked::Checked;
+use crate::shown::shown;
 use basis::Answer;
-use sections::hand_out;
+use cc_section::hand_out;
+use checked::Checked;
 use services::MaybeServiceInfo;
 use times::MaybeTimeCode;
 use values::MaybeFramerate;
@@ -76,7 +77,7 @@ impl CDPParser {
         hand_out(packet, 0 < answer.first, read.cc_data_at, captions);
         CDPParserRead {
             answer,
-            parser: read.shown(packet),
+            parser: shown(read, packet),
         }
     }
 

@@ -6,12 +6,11 @@ use mathlib.Core.List.{List}
 use Prim.Native.Nat.{ℕ, _/_, _%_, _≤_}
 use native.Mathlib.Omega.{arith}
 use borrow.Author.Tests.{leb-true}
-use lib.Dec.{eqb, leb}
+use lib.Dec.{eqb}
 use lib.ListN.{length, drop}
 use Rattle.basis.proofs.Verdicts.{done-clear, kept-first, refused-shows}
-use Rattle.basis.specs.Answer.{LengthMismatch}
 use Rattle.basis.specs.Bytes.{byte}
-use Rattle.basis.specs.Check.{check, clear, verdict}
+use Rattle.basis.specs.Check.{clear, sizeCheck, verdict}
 use Rattle.svc_entries.specs.Entries.{countOf, entriesOf, entriesRead, filled, sectionChecks}
 use Rattle.services.specs.Section.{listOf, listWith, refusedList, sectionRead}
 use Rattle.services.specs.ServiceList.{empty, list}
@@ -43,7 +42,7 @@ module _ (d : List ℕ) where
 
     pub two-bytes : 2 ≤ length d
     unfolding sectionChecks
-    two-bytes = leb-true _ _ (kept-first (check (leb 2 (length d)) (LengthMismatch 2 (length d))) (drop 1 (sectionChecks d)) all-clear)
+    two-bytes = leb-true _ _ (kept-first (sizeCheck d 2) (drop 1 (sectionChecks d)) all-clear)
 
     pub list-read : _≡_ {A = ServiceInfoRead}
         (record { answer = entriesRead d .answer; list = listWith (byte d 1) (entriesRead d .services) })

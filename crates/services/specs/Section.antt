@@ -11,14 +11,13 @@ use Rattle.services.specs.declared.list.ServiceInfo.{ServiceInfo}
 use Rattle.services.specs.declared.section.ServiceInfoRead.{ServiceInfoRead}
 use Rattle.basis.specs.declared.answer.Answer.{Answer}
 
--- the list that byte 1 and these places make
+-- the list that byte 1 and these places make: 40 start, 20 change, 10 complete, the low four bits the count
 abbrev pub listWith : ℕ → List ServiceEntry → ServiceInfo
 listWith header services = list (allSet x40 header) (allSet x20 header) (allSet x10 header) services (under x0F header)
 
--- byte 1: 40 start, 20 change, 10 complete
+-- the list that a section's bytes hold
 unfoldable pub listOf : List ℕ → ServiceInfo
-listOf d =
-    list (allSet x40 (byte d 1)) (allSet x20 (byte d 1)) (allSet x10 (byte d 1)) (filled (entriesOf d 2 (countOf d))) (countOf d)
+listOf d = listWith (byte d 1) (filled (entriesOf d 2 (countOf d)))
 
 -- what reading a section alone gives
 unfoldable pub sectionRead : List ℕ → ServiceInfoRead

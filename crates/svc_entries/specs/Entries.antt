@@ -3,11 +3,11 @@ use mathlib.Core.Bool.{cond, not, _||_}
 use mathlib.Core.List.{List, [], _∷_, _++_}
 use mathlib.Core.Path.{_≡_}
 use Prim.Native.Nat.{ℕ, zero, suc, _+_, _-_, _*_, _/_, _%_}
-use lib.Dec.{eqb, leb}
+use lib.Dec.{eqb}
 use lib.ListN.{length, replicate}
 use Rattle.basis.specs.Answer.{LengthMismatch, WrongMagic, InvalidFixedBits, ServiceNumberMismatch}
 use Rattle.basis.specs.Bytes.{byte}
-use Rattle.basis.specs.Check.{Check, check, verdict, answer, ifClear}
+use Rattle.basis.specs.Check.{Check, check, sizeCheck, verdict, answer, ifClear}
 use Rattle.basis.specs.Mask.{under, allSet, x80, x40, x20, x3F, x1F, x0F}
 use Rattle.values.specs.Packet.{servicesId}
 use Rattle.entries.specs.Entry.{entryChecks, entryOf}
@@ -39,7 +39,7 @@ countOf d = under x0F (byte d 1)
 -- S1 to S4: two bytes; 73; bit 80 of byte 1; seven bytes for each entry behind these two
 abbrev pub frameChecks : List ℕ → List Check
 frameChecks d =
-    check (leb 2 (length d)) (LengthMismatch 2 (length d))
+    sizeCheck d 2
     ∷ check (eqb (byte d 0) servicesId) WrongMagic
     ∷ check (allSet x80 (byte d 1)) InvalidFixedBits
     ∷ check (eqb (length d) (sectionLength (countOf d))) (LengthMismatch (sectionLength (countOf d)) (length d))

@@ -13,11 +13,10 @@ use Rattle.basis.proofs.Bools.{and-left, and-right, beq-same}
 use Rattle.basis.proofs.Verdicts.{and-clear, and-first, and-second, andThen, kept-first, kept-rest, verdict-append}
 use Rattle.basis.specs.Answer.{ServiceFlagsMismatched, WrongMagic}
 use Rattle.basis.specs.Bytes.{byte}
-use Rattle.basis.specs.Check.{Check, check, clear, verdict}
+use Rattle.basis.specs.Check.{Check, check, clear, verdict, sizeCheck}
 use Rattle.values.specs.Packet.{servicesId}
 use Rattle.svc_entries.specs.Entries.{sectionChecks}
 use Rattle.services.specs.Section.{listOf}
-use Rattle.sections.specs.Section.{sizeCheck}
 use Rattle.svc_section.specs.SvcInfo.{sameFlags, svcInfoBytes, svcInfoChecks, svcInfoSize}
 use Rattle.services.specs.declared.list.ServiceInfo.{ServiceInfo}
 use Rattle.values.specs.declared.flags.Flags.{Flags}

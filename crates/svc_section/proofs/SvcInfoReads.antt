@@ -11,13 +11,12 @@ use lib.ListN.{length}
 use Rattle.basis.proofs.Verdicts.{andThen, done-clear, done-value, kept-first, kept-rest, refused-shows, refused-stays, verdict-append}
 use Rattle.basis.specs.Answer.{LengthMismatch, ServiceFlagsMismatched, WrongMagic, done, refused}
 use Rattle.basis.specs.Bytes.{byte, part}
-use Rattle.basis.specs.Check.{Check, Verdict, answer, check, clear, ifClear, verdict, when}
+use Rattle.basis.specs.Check.{Check, Verdict, answer, check, clear, ifClear, verdict, when, sizeCheck}
 use Rattle.values.specs.Packet.{servicesId}
 use Rattle.svc_entries.specs.Entries.{filled, sectionChecks}
 use Rattle.services.specs.Section.{listOf, sectionRead}
 use Rattle.services.specs.ServiceList.{empty, listAbsent, listPresent}
 use Rattle.svc_section.specs.SvcInfo.{noSvcInfo, sameFlags, spanOf, svcInfoBytes, svcInfoChecks, svcInfoOf, svcInfoRead, svcInfoShown, svcInfoSize, svcInfoThere}
-use Rattle.sections.specs.Section.{sizeCheck}
 use Rattle.svc_section.specs.declared.svc_info.Span.{Span}
 use Rattle.svc_section.specs.declared.svc_info.SvcInfoSection.{SvcInfoSection}
 use Rattle.services.specs.declared.list.MaybeServiceInfo.{MaybeServiceInfo}

@@ -6,13 +6,12 @@ use lib.Dec.{eqb, leb}
 use lib.ListN.{length}
 use Rattle.basis.specs.Answer.{WrongMagic, ServiceFlagsMismatched}
 use Rattle.basis.specs.Bytes.{byte, part}
-use Rattle.basis.specs.Check.{Check, check, when, sizeWhen, verdict, answer, ifClear}
+use Rattle.basis.specs.Check.{Check, check, when, sizeWhen, verdict, answer, ifClear, sizeCheck}
 use Rattle.basis.specs.Mask.{under, x0F}
 use Rattle.values.specs.Packet.{servicesId}
 use Rattle.svc_entries.specs.Entries.{sectionChecks, sectionLength}
 use Rattle.services.specs.Section.{listOf}
 use Rattle.services.specs.ServiceList.{listPresent, listAbsent}
-use Rattle.sections.specs.Section.{sizeCheck}
 use Rattle.svc_section.specs.declared.svc_info.Span.{Span}
 use Rattle.svc_section.specs.declared.svc_info.SvcInfoSection.{SvcInfoSection}
 use Rattle.services.specs.declared.list.MaybeServiceInfo.{MaybeServiceInfo}
@@ -43,9 +42,13 @@ svcInfoChecks p f i =
     ∷ sectionChecks (svcInfoBytes p i)
     ++ check (sameFlags (listOf (svcInfoBytes p i)) f) ServiceFlagsMismatched ∷ []
 
+-- the section's list, where there is one
+abbrev pub listWhere : Bool → List ℕ → ℕ → MaybeServiceInfo
+listWhere there p i = cond there (listPresent (listOf (svcInfoBytes p i))) listAbsent
+
 -- absent where the flag is clear
 abbrev pub svcInfoOf : List ℕ → Flags → ℕ → MaybeServiceInfo
-svcInfoOf p f i = cond (f .«svc_info») (listPresent (listOf (svcInfoBytes p i))) listAbsent
+svcInfoOf p f i = listWhere (f .«svc_info») p i
 
 -- the section is there where the header says so and the packet has all of its bytes
 abbrev pub svcInfoThere : List ℕ → Flags → ℕ → Bool
@@ -57,7 +60,7 @@ spanOf there i size = cond there (record { present = true; from = i; to = i + si
 
 -- the list of a section that is there, whatever its fixed bits are
 unfoldable pub svcInfoShown : List ℕ → Flags → ℕ → MaybeServiceInfo
-svcInfoShown p f i = cond (svcInfoThere p f i) (listPresent (listOf (svcInfoBytes p i))) listAbsent
+svcInfoShown p f i = listWhere (svcInfoThere p f i) p i
 
 -- what reading the section gives; with 0 goes how far i moves on
 unfoldable pub svcInfoRead : List ℕ → Flags → ℕ → SvcInfoSection

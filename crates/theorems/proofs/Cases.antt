@@ -8,7 +8,8 @@ use Rattle.entries.specs.Entry.{entryRead}
 use Rattle.svc_entries.specs.Entries.{sectionChecks, filled}
 use Rattle.services.specs.Section.{listOf, sectionRead}
 use Rattle.footer.specs.Footer.{closingChecks}
-use Rattle.reader.specs.Packet.{packetChecks, shownBy}
+use Rattle.checked.specs.Packet.{packetChecks}
+use Rattle.reader.specs.Shown.{shownBy}
 use Rattle.reader.specs.Reader.{read}
 use Rattle.packing.specs.Writing.{packetBytes, packetWritten}
 use Rattle.theorems.specs.Cases.{Cases}

@@ -17,15 +17,18 @@ use Rattle.services.specs.Section as Section
 use Rattle.svc_entries.specs.Entries.{entriesRead, places, sectionChecks, sectionLength}
 use Rattle.services.specs.ServiceList.{countCheck}
 use Rattle.services.specs.Writing.{sectionBytes, sectionWritten, valueAnswer, valueChecks}
+use Rattle.reader.proofs.PacketShown.{checks-answer}
 use Rattle.reader.proofs.Refusals as Refusals
-use Rattle.sections.specs.CcData as CcData
-use Rattle.sections.specs.Header as Header
-use Rattle.sections.specs.TimeCode as TimeCode
+use Rattle.cc_section.specs.CcData as CcData
+use Rattle.header.specs.Header as Header
+use Rattle.time_section.specs.TimeCode as TimeCode
 use Rattle.footer.specs.Footer as Footer
 use Rattle.svc_section.specs.SvcInfo as SvcInfo
-use Rattle.reader.specs.Packet.{captionLength, packetChecks, packetRead}
+use Rattle.checked.specs.Packet.{captionLength, packetChecks}
+use Rattle.reader.specs.Shown.{packetRead}
 use Rattle.reader.specs.Reader.{read, readChecks}
 use Rattle.packing.proofs.PacketWrites as PacketWrites
+use Rattle.packet_checks.specs.Checks as Checks
 use Rattle.packing.specs.Writing as Writing
 use Rattle.writer.specs.Writer.{setChecks, setServiceInfo}
 use Rattle.theorems.specs.FirstDemand.{FirstDemand, inTable, refuses}
@@ -58,7 +61,7 @@ left v bytes buffer h = sym (refused-shows (λ (a : Answer) (b : List ℕ). b) v
 -- the writers' verdicts, room among them
 abbrev packetVerdict : CDPWriter → Framerate → List ℕ → List ℕ → Verdict
 packetVerdict w rate captions buffer =
-    verdict (Writing.packetChecks rate (w .«time_code») (w .«service_info») (length captions) ++ roomCheck (Writing.packetLength (w .«time_code») (w .«service_info») (length captions)) buffer ∷ [])
+    verdict (Checks.packetChecks rate (w .«time_code») (w .«service_info») (length captions) ++ roomCheck (Checks.packetLength (w .«time_code») (w .«service_info») (length captions)) buffer ∷ [])
 
 abbrev sectionVerdict : ServiceInfo → List ℕ → Verdict
 sectionVerdict l buffer = verdict (valueChecks l ++ roomCheck (sectionLength (l .count)) buffer ∷ [])
@@ -80,8 +83,10 @@ first-demand =
       servicesRead = λ p f i. in-table (verdict (when (f .«svc_info») (SvcInfo.svcInfoChecks p f i))) (sizeWhen (f .«svc_info») (SvcInfo.svcInfoSize p i));
       closingRead = λ p sequence i. in-table (verdict (Footer.closingChecks p sequence i)) 0;
       entriesRead = λ d. in-table (verdict (sectionChecks d)) 0;
+      checkedRead = λ p. rw (checks-answer p) (in-table (verdict (packetChecks p)) (captionLength p));
       statelessRead = λ p. in-table (verdict (packetChecks p)) (captionLength p);
-      packetAnswered = λ w rate captions buffer. in-table (packetVerdict w rate captions buffer) (Writing.packetLength (w .«time_code») (w .«service_info») (length captions));
+      packetAnswered = λ w rate captions buffer. in-table (packetVerdict w rate captions buffer) (Checks.packetLength (w .«time_code») (w .«service_info») (length captions));
+      packetTested = λ rate time services run. in-table (verdict (Checks.packetChecks rate time services run)) (Checks.packetLength time services run);
       sectionAnswered = λ l buffer. in-table (sectionVerdict l buffer) (length (sectionBytes l));
       entryAnswered = λ e buffer. in-table (entryVerdict e buffer) 6;
       timeAnswered = λ t. in-table (verdict (Time.timeWriteChecks t)) 0;

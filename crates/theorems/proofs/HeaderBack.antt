@@ -14,8 +14,8 @@ use Rattle.values.specs.Flags.{flagByte, flagsOf}
 use Rattle.basis.specs.Mask.{flag, under, x80, x40, x20, x10, x08, x04}
 use Rattle.values.specs.Rate.{find, fromId, known, present, rates}
 use Rattle.services.proofs.SectionBack.{bit-back}
-use Rattle.sections.specs.Header.{headerChecks, rateOf, sequenceIn}
-use Rattle.packing.proofs.Checks.{known-id}
+use Rattle.header.specs.Header.{headerChecks, rateOf, sequenceIn}
+use Rattle.packet_checks.proofs.Tests.{known-id}
 use Rattle.packing.specs.Writing.{headerBytes}
 use Rattle.values.specs.declared.flags.Flags.{Flags}
 use Rattle.values.specs.declared.framerate.Framerate.{Framerate}

@@ -12,13 +12,12 @@ use Rattle.times.specs.Time.{timeBytes, timePresent, timeWriteChecks}
 use Rattle.services.proofs.SectionBack.{named}
 use Rattle.services.proofs.SectionWrites.{value-done}
 use Rattle.services.specs.RoundTrip.{Ready, allOfThree, namesFieldTwo}
-use Rattle.services.specs.Section.{listOf}
 use Rattle.svc_entries.specs.Entries.{sectionLength}
 use Rattle.services.specs.ServiceList.{listAbsent, listPresent}
 use Rattle.services.specs.Writing.{counted, sectionBytes, valueAnswer, valueChecks}
-use Rattle.sections.specs.TimeCode.{timeCodeChecks, timeCodeOf}
+use Rattle.time_section.specs.TimeCode.{timeCodeChecks, timeCodeOf}
 use Rattle.svc_section.proofs.SvcInfoAlone.{FlagsOf}
-use Rattle.svc_section.specs.SvcInfo.{svcInfoBytes, svcInfoChecks, svcInfoSize}
+use Rattle.svc_section.specs.SvcInfo.{listWhere, svcInfoChecks, svcInfoSize}
 use Rattle.writer.specs.Writer.{heldTime}
 use Rattle.theorems.proofs.SectionsBack.{list-value, section-size, services-verdict, time-clear, time-value}
 use Rattle.theorems.specs.RoundTrip.{listBack}
@@ -45,7 +44,7 @@ ready l right languages =
 
 pub record ServicesHere (p : List ℕ) (i : ℕ) (f : Flags) (present : Bool) (l : ServiceInfo) : Type 0 where
   pub answered : verdict (when present (svcInfoChecks p f i)) ≡ named (present && namesFieldTwo (counted l))
-  pub shown : cond present (listPresent (listOf (svcInfoBytes p i))) listAbsent ≡ cond present (listPresent (listBack l)) listAbsent
+  pub shown : listWhere present p i ≡ cond present (listPresent (listBack l)) listAbsent
   pub size : sizeWhen present (svcInfoSize p i) ≡ sizeWhen present (sectionLength (l .count))
 
 pub services-here : (p : List ℕ) (i : ℕ) (f : Flags) (present : Bool) (l : ServiceInfo) (rest : List ℕ) → (present ≡ true → FlagsOf f l)

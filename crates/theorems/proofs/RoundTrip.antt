@@ -19,21 +19,23 @@ use Rattle.entries.specs.Writing.{Written}
 use Rattle.services.proofs.SectionBack.{named}
 use Rattle.services.specs.RoundTrip.{allOfThree}
 use Rattle.services.specs.Writing.{counted}
-use Rattle.sections.specs.CcData.{ccDataChecks, ccDataSize, handedOut}
-use Rattle.sections.specs.Header.{flagsIn, headerChecks, rateOf, sequenceIn}
-use Rattle.sections.specs.TimeCode.{timeCodeChecks, timeCodeOf}
+use Rattle.cc_section.specs.CcData.{ccDataChecks, ccDataSize, handedOut}
+use Rattle.header.specs.Header.{flagsIn, headerChecks, rateOf, sequenceIn}
+use Rattle.time_section.specs.TimeCode.{timeCodeChecks, timeCodeOf}
 use Rattle.footer.proofs.Checksums.{checksum-is}
 use Rattle.footer.specs.Footer.{checksumOf, closingChecks}
 use Rattle.svc_section.specs.SvcInfo.{svcInfoChecks, svcInfoOf, svcInfoSize}
-use Rattle.reader.proofs.PacketReads.{in-order}
-use Rattle.reader.specs.Packet.{captionLength, ccDataAt, closingAt, packetChecks, shownBy, svcInfoAt}
+use Rattle.checked.proofs.PacketReads.{in-order}
+use Rattle.checked.specs.Packet.{captionLength, ccDataAt, closingAt, packetChecks, svcInfoAt}
+use Rattle.reader.specs.Shown.{shownBy}
 use Rattle.reader.specs.Reader.{bufferAfter, captionsOf, cleared, read}
-use Rattle.packing.proofs.Checks.{Accepted, accepted}
+use Rattle.packet_checks.proofs.Tests.{Accepted, accepted}
 use Rattle.packing.proofs.PacketWrites.{packet-done}
 use Rattle.packing.proofs.Parts.{packet-length, services-length, time-length}
 use Rattle.writer.specs.Writer.{heldTime, packetWritten}
-use Rattle.packing.specs.Writing as Writing
-use Rattle.packing.specs.Writing.{ccDataBytes, flagsOf, footerBytes, headerBytes, packetBytes, packetLength, summedBytes, svcInfoBytes, timeCodeBytes}
+use Rattle.packet_checks.specs.Checks as Checks
+use Rattle.packet_checks.specs.Checks.{packetLength}
+use Rattle.packing.specs.Writing.{ccDataBytes, flagsOf, footerBytes, headerBytes, packetBytes, summedBytes, svcInfoBytes, timeCodeBytes}
 use Rattle.theorems.proofs.FooterBack.{closing-clear}
 use Rattle.theorems.proofs.HeaderBack.{flags-back, header-clear, rate-back, sequence-back}
 use Rattle.theorems.proofs.PartsBack.{ServicesHere, TimeHere, services-here, time-here}
@@ -55,7 +57,7 @@ six a b c d e f =
 
 -- a packet that can be written, in which every language of a held list has its three bytes, as its type says
 module _ (w : CDPWriter) (rate : Framerate) (captions : List ℕ)
-    (right : verdict (Writing.packetChecks rate (w .«time_code») (w .«service_info») (length captions)) ≡ clear)
+    (right : verdict (Checks.packetChecks rate (w .«time_code») (w .«service_info») (length captions)) ≡ clear)
     (languages : w .«service_info» .present ≡ true → allOfThree (counted (w .«service_info» .«service_info»)) ≡ true) where
   abbrev run : ℕ
   run = length captions
@@ -89,13 +91,13 @@ module _ (w : CDPWriter) (rate : Framerate) (captions : List ℕ)
   first = timeCodeBytes (w .«time_code») ++ second
 
   abbrev captionsFrom : ℕ
-  captionsFrom = 7 + Writing.timeCodeSize (w .«time_code»)
+  captionsFrom = 7 + Checks.timeCodeSize (w .«time_code»)
 
   abbrev servicesFrom : ℕ
   servicesFrom = captionsFrom + (2 + run)
 
   abbrev footerFrom : ℕ
-  footerFrom = servicesFrom + Writing.svcInfoSize (w .«service_info»)
+  footerFrom = servicesFrom + Checks.svcInfoSize (w .«service_info»)
 
   laid : p ≡ header ++ first
   unfolding packetBytes
@@ -108,13 +110,13 @@ module _ (w : CDPWriter) (rate : Framerate) (captions : List ℕ)
   at-time = ap (drop 7) laid
 
   at-captions : drop captionsFrom p ≡ second
-  at-captions = further-on p 7 (timeCodeBytes (w .«time_code»)) second at-time (Writing.timeCodeSize (w .«time_code»)) (sym (time-length (w .«time_code»)))
+  at-captions = further-on p 7 (timeCodeBytes (w .«time_code»)) second at-time (Checks.timeCodeSize (w .«time_code»)) (sym (time-length (w .«time_code»)))
 
   at-services : drop servicesFrom p ≡ third
   at-services = further-on p captionsFrom (ccDataBytes captions) third at-captions (2 + run) (omega arith)
 
   at-footer : drop footerFrom p ≡ fourth
-  at-footer = further-on p servicesFrom (svcInfoBytes (w .«service_info»)) fourth at-services (Writing.svcInfoSize (w .«service_info»)) (sym (services-length (w .«service_info»)))
+  at-footer = further-on p servicesFrom (svcInfoBytes (w .«service_info»)) fourth at-services (Checks.svcInfoSize (w .«service_info»)) (sym (services-length (w .«service_info»)))
 
   -- the header
   flags : flagsIn p ≡ flagsOf (w .«time_code») (w .«service_info»)

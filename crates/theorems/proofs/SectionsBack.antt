@@ -21,8 +21,8 @@ use Rattle.services.specs.RoundTrip.{Ready, namesFieldTwo}
 use Rattle.svc_entries.specs.Entries.{sectionChecks, sectionLength}
 use Rattle.services.specs.Section.{listOf}
 use Rattle.services.specs.Writing.{counted, sectionByte, sectionBytes}
-use Rattle.sections.specs.CcData.{ccCount, ccDataChecks, ccDataSize, handedOut}
-use Rattle.sections.specs.TimeCode.{timeCodeChecks, timeCodeIn}
+use Rattle.cc_section.specs.CcData.{ccCount, ccDataChecks, ccDataSize, handedOut}
+use Rattle.time_section.specs.TimeCode.{timeCodeChecks, timeCodeIn}
 use Rattle.svc_section.proofs.SvcInfoAlone.{FlagsOf, alone}
 use Rattle.svc_section.specs.SvcInfo.{svcInfoBytes, svcInfoChecks, svcInfoSize}
 use Rattle.packing.specs.Writing.{ccDataBytes}

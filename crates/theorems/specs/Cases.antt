@@ -12,7 +12,7 @@ use Rattle.entries.specs.Service.{entry, filler}
 use Rattle.services.specs.Section.{sectionRead}
 use Rattle.svc_entries.specs.Entries.{filled}
 use Rattle.services.specs.ServiceList.{empty, list, listAbsent}
-use Rattle.reader.specs.Packet.{fresh, state}
+use Rattle.reader.specs.Shown.{fresh, state}
 use Rattle.reader.specs.Reader.{captionRoom, read}
 use Rattle.writer.specs.Writer as Writer
 use Rattle.entries.specs.declared.service.FieldOrService.the-variants.{Field}

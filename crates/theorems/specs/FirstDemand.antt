@@ -12,19 +12,22 @@ use Rattle.svc_entries.specs.Entries as Entries
 use Rattle.services.specs.Section as Section
 use Rattle.services.specs.ServiceList as ServiceList
 use Rattle.services.specs.Writing as SectionWriting
-use Rattle.sections.specs.CcData as CcData
-use Rattle.sections.specs.Header as Header
-use Rattle.sections.specs.TimeCode as TimeCode
+use Rattle.cc_section.specs.CcData as CcData
+use Rattle.header.specs.Header as Header
+use Rattle.time_section.specs.TimeCode as TimeCode
 use Rattle.footer.specs.Footer as Footer
 use Rattle.svc_section.specs.SvcInfo as SvcInfo
-use Rattle.reader.specs.Packet as Packet
+use Rattle.checked.specs.Packet as Packet
+use Rattle.reader.specs.Shown as Shown
 use Rattle.reader.specs.Reader.{bufferAfter, cleared, read}
+use Rattle.packet_checks.specs.Checks.{packetAsked}
 use Rattle.writer.specs.Writer.{packetWritten, setServiceInfo}
 use Rattle.basis.specs.declared.answer.Answer.{Answer}
 use Rattle.entries.specs.declared.entry.ServiceEntry.{ServiceEntry}
 use Rattle.reader.specs.declared.parser.CDPParser.{CDPParser}
 use Rattle.services.specs.declared.list.MaybeServiceInfo.{MaybeServiceInfo}
 use Rattle.services.specs.declared.list.ServiceInfo.{ServiceInfo}
+use Rattle.times.specs.declared.time_code.MaybeTimeCode.{MaybeTimeCode}
 use Rattle.times.specs.declared.time_code.TimeCode.{TimeCode}
 use Rattle.values.specs.declared.flags.Flags.{Flags}
 use Rattle.values.specs.declared.framerate.Framerate.{Framerate}
@@ -47,16 +50,18 @@ pub record FirstDemand : Type 0 where
   pub sectionRead : (d : List ℕ) → inTable (Section.sectionRead d .answer) ≡ true
   pub entryRead : (bytes : List ℕ) → inTable (Entry.entryRead bytes .answer) ≡ true
   pub timeRead : (hours minutes seconds frames : ℕ) → inTable (Time.timeRead hours minutes seconds frames .answer) ≡ true
-  -- the parts of a packet, each read at any place, and the packet with no state
+  -- the parts of a packet, each read at any place, and the packet before its list is made and with no state
   pub headerRead : (p : List ℕ) → inTable (Header.headerRead p .answer) ≡ true
   pub timeCodeRead : (p : List ℕ) (present : Bool) (i : ℕ) → inTable (TimeCode.timeCodeRead p present i .answer) ≡ true
   pub captionsRead : (p : List ℕ) (present : Bool) (i : ℕ) → inTable (CcData.ccDataRead p present i) ≡ true
   pub servicesRead : (p : List ℕ) (f : Flags) (i : ℕ) → inTable (SvcInfo.svcInfoRead p f i .answer) ≡ true
   pub closingRead : (p : List ℕ) (sequence i : ℕ) → inTable (Footer.closingRead p sequence i) ≡ true
   pub entriesRead : (d : List ℕ) → inTable (Entries.entriesRead d .answer) ≡ true
-  pub statelessRead : (p : List ℕ) → inTable (Packet.packetRead p .answer) ≡ true
+  pub checkedRead : (p : List ℕ) → inTable (Packet.checkedRead p .answer) ≡ true
+  pub statelessRead : (p : List ℕ) → inTable (Shown.packetRead p .answer) ≡ true
   -- whatever is to be written, or held, and whatever buffer is lent
   pub packetAnswered : (w : CDPWriter) (rate : Framerate) (captions buffer : List ℕ) → inTable (packetWritten w rate captions buffer .answer) ≡ true
+  pub packetTested : (rate : Framerate) (time : MaybeTimeCode) (services : MaybeServiceInfo) (run : ℕ) → inTable (packetAsked rate time services run) ≡ true
   pub sectionAnswered : (l : ServiceInfo) (buffer : List ℕ) → inTable (SectionWriting.sectionWritten l buffer .answer) ≡ true
   pub entryAnswered : (e : ServiceEntry) (buffer : List ℕ) → inTable (EntryWriting.entryWritten e buffer .answer) ≡ true
   pub timeAnswered : (t : TimeCode) → inTable (Time.timeWritten t .answer) ≡ true

@@ -11,7 +11,7 @@ use Rattle.services.specs.RoundTrip.{namesFieldTwo}
 use Rattle.svc_entries.specs.Entries.{filled}
 use Rattle.services.specs.ServiceList.{list, listAbsent, listPresent}
 use Rattle.services.specs.Writing.{counted}
-use Rattle.reader.specs.Packet.{state}
+use Rattle.reader.specs.Shown.{state}
 use Rattle.writer.specs.Writer.{heldTime, packetWritten}
 use Rattle.reader.specs.declared.parser.CDPParser.{CDPParser}
 use Rattle.reader.specs.declared.parser.CDPParserRead.{CDPParserRead}

@@ -6,7 +6,7 @@ use Prim.Native.Nat.{ℕ}
 use native.Mathlib.Omega.{arith}
 use lib.ListN.{length}
 use Rattle.basis.specs.Bytes.{put}
-use Rattle.packing.proofs.Checks.{accepted, known-id, length-most}
+use Rattle.packet_checks.proofs.Tests.{accepted, known-id, length-most}
 use Rattle.packing.proofs.Parts.{packet-put}
 use Rattle.packing.specs.Writing.{headerBytes}
 use Rattle.values.specs.declared.flags.Flags.{Flags}

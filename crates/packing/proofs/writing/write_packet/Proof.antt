@@ -4,7 +4,7 @@ use mathlib.Core.Path.{_∙_, ap, sym}
 use lib.ListN.{length}
 use Rattle.basis.specs.declared.answer.Answer.{Answer}
 use borrow.Author.Tests.{not-true, not-false}
-use Rattle.packing.proofs.Checks.{packet-asked}
+use Rattle.packet_checks.proofs.Tests.{packet-asked}
 use Rattle.packing.proofs.PacketWrites.{packet-fits, packet-no-room, packet-refused}
 use borrow.Author.Needs.{needs}
 use Rattle.packing.proofs.writing.write_packet.Statement.{statement}

@@ -2,9 +2,9 @@
 -- Assumes nothing.
 use mathlib.Core.Path.{_∙_, sym, ap}
 use borrow.Author.Tests.{not-true, not-false}
-use Rattle.reader.specs.Packet.{refusedPacket}
-use Rattle.reader.proofs.PacketReads.{accepts, all-shown, checks-answer, none-shown}
-use Rattle.reader.specs.declared.checked.Checked.{Checked}
+use Rattle.reader.specs.Shown.{refusedPacket}
+use Rattle.reader.proofs.PacketShown.{accepts, all-shown, checks-answer, none-shown}
+use Rattle.checked.specs.declared.checked.Checked.{Checked}
 use borrow.Author.Needs.{needs}
 use Rattle.reader.proofs.packet.PacketRead.parse.Statement.{statement}
 use Rattle.reader.proofs.packet.PacketRead.parse.Tie as tie

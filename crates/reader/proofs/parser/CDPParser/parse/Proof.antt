@@ -3,9 +3,9 @@
 use mathlib.Core.Path.{_∙_, sym, ap}
 use native.Mathlib.Omega.{arith}
 use borrow.Author.Tests.{not-true, not-false}
-use Rattle.reader.proofs.PacketReads.{accepts, checks-answer}
+use Rattle.reader.proofs.PacketShown.{accepts, checks-answer}
 use Rattle.reader.proofs.ReaderReads.{no-room, no-room-buffer, packet-refused, refused-buffer, packet-accepted, accepted-buffer}
-use Rattle.reader.specs.declared.checked.Checked.{Checked}
+use Rattle.checked.specs.declared.checked.Checked.{Checked}
 use borrow.Author.Needs.{needs}
 use Rattle.reader.proofs.parser.CDPParser.parse.Statement.{statement}
 use Rattle.reader.proofs.parser.CDPParser.parse.Tie as tie

@@ -1,0 +1,94 @@
+-- `cc_section::cc_data` is rule 6, test by test.
+-- Assumes nothing.
+use mathlib.Core.Path.{_∙_}
+use native.Mathlib.Omega.{arith}
+use borrow.Author.Tests.{not-true, not-false}
+use Rattle.cc_section.proofs.CcDataReads.{not-there, too-short, other-id, no-E0, captions-cut, cc-data-whole}
+use borrow.Author.Needs.{needs}
+use Rattle.cc_section.proofs.captions.cc_data.Statement.{statement}
+use Rattle.cc_section.proofs.captions.cc_data.Tie as tie
+
+done-requires : tie.Need-done-requires
+done-requires c κs = search needs
+
+returns : tie.Need-returns
+returns c = c .done .ensures ∙ not-there _ _ _ (not-true _ (c .before .if1 .taken))
+
+add-if2 : tie.Need-add-if2
+add-if2 c = search needs
+
+add-length-mismatch : tie.Need-add-length-mismatch
+add-length-mismatch c = search needs
+
+length-mismatch-requires : tie.Need-length-mismatch-requires
+length-mismatch-requires c κs = search needs
+
+returns-2 : tie.Need-returns-2
+returns-2 c = c .length-mismatch .ensures ∙ too-short _ _ _ (not-false _ (c .before .before .if1 .left)) (omega arith)
+
+shared-slice-read-if3 : tie.Need-shared-slice-read-if3
+shared-slice-read-if3 c = search needs
+
+returns-3 : tie.Need-returns-3
+returns-3 c = other-id _ _ _ (not-false _ (c .before .before .before .if1 .left)) (omega arith) (λ h. omega arith)
+
+add-header : tie.Need-add-header
+add-header c = search needs
+
+shared-slice-read-header : tie.Need-shared-slice-read-header
+shared-slice-read-header c = search needs
+
+returns-4 : tie.Need-returns-4
+returns-4 c = no-E0 _ _ _ (not-false _ (c .before .before .before .before .before .if1 .left)) (omega arith) (omega arith) (λ h. omega arith)
+
+cast-length : tie.Need-cast-length
+cast-length c = search needs
+
+mul-length : tie.Need-mul-length
+mul-length c = search needs
+
+add-length : tie.Need-add-length
+add-length c = search needs
+
+add-if5 : tie.Need-add-if5
+add-if5 c = search needs
+
+add-length-mismatch-2 : tie.Need-add-length-mismatch-2
+add-length-mismatch-2 c = search needs
+
+length-mismatch-requires-2 : tie.Need-length-mismatch-requires-2
+length-mismatch-requires-2 c κs = search needs
+
+returns-5 : tie.Need-returns-5
+returns-5 c = c .length-mismatch2 .ensures ∙ captions-cut _ _ _ (not-false _ (c .before .before .before .before .before .before .before .if1 .left)) (omega arith) (omega arith) (omega arith) (omega arith)
+
+done-requires-2 : tie.Need-done-requires-2
+done-requires-2 c κs = search needs
+
+returns-6 : tie.Need-returns-6
+returns-6 c = c .done2 .ensures ∙ cc-data-whole _ _ _ (not-false _ (c .before .before .before .before .before .before .before .if1 .left)) (omega arith) (omega arith) (omega arith) (omega arith)
+
+pub cc-data-spec : {M : Type 1} → statement M
+cc-data-spec =
+    tie.close
+    (tie.spec
+    done-requires
+    returns
+    add-if2
+    add-length-mismatch
+    length-mismatch-requires
+    returns-2
+    shared-slice-read-if3
+    returns-3
+    add-header
+    shared-slice-read-header
+    returns-4
+    cast-length
+    mul-length
+    add-length
+    add-if5
+    add-length-mismatch-2
+    length-mismatch-requires-2
+    returns-5
+    done-requires-2
+    returns-6)

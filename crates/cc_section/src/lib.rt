@@ -1,0 +1,5 @@
+// The caption section of a packet: a block of CDPParser::parse in the Rust.
+mod captions;
+
+pub use captions::cc_data;
+pub use captions::hand_out;

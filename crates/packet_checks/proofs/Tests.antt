@@ -1,0 +1,196 @@
+-- Whether a packet can be written, test by test: what the definition answers where a test is the first that fails, and
+-- what holds where none does.
+-- Assumes nothing.
+use mathlib.Core.Path.{_≡_, _∙_, sym, refl, ap}
+use mathlib.Core.Bool.{Bool, true, false, false≢true}
+use mathlib.Core.List.{List, _∷_, _++_}
+use Prim.Native.Nat.{ℕ, _+_, _*_, _%_, _≤_, _<_}
+use native.Mathlib.Omega.{arith}
+use borrow.Author.Tests.{eq-eqb, ne-eqb, le-leb, lt-leb, leb-true, leb-false, eqb-true}
+use lib.Dec.{eqb, leb}
+use Rattle.basis.proofs.Bools.{and-left, and-right}
+use Rattle.values.proofs.Rates.{no-row}
+use Rattle.basis.proofs.Verdicts.{and-first, and-second, andThen, done-clear, done-shows, kept-first, kept-rest, refused-shows, refused-stays, verdict-append}
+use Rattle.basis.specs.Answer.{UnknownFramerate, WrongCaptionRun, done, refused}
+use Rattle.basis.specs.Check.{Check, Verdict, answer, check, clear, sizeWhen, verdict, when}
+use Rattle.values.specs.Rate.{fromId, known, noRate}
+use Rattle.times.specs.Time.{timeWriteChecks, timeWritten}
+use Rattle.services.proofs.SectionWrites.{value-length}
+use Rattle.svc_entries.specs.Entries.{sectionLength}
+use Rattle.services.specs.ServiceList.{byteLen, countCheck}
+use Rattle.services.specs.Writing.{counted, entryWriteChecks, valueAnswer, valueChecks}
+use Rattle.packet_checks.specs.Checks.{fullTriplets, packetAsked, packetChecks, packetLength, servicesAsked, svcInfoChecks, svcInfoSize, timeAsked, timeCodeChecks, timeCodeSize}
+use Rattle.services.specs.declared.list.MaybeServiceInfo.{MaybeServiceInfo}
+use Rattle.services.specs.declared.list.ServiceInfo.{ServiceInfo}
+use Rattle.basis.specs.declared.answer.Answer.{Answer}
+use Rattle.values.specs.declared.framerate.Framerate.{Framerate}
+use Rattle.values.specs.declared.framerate.MaybeFramerate.{MaybeFramerate}
+use Rattle.times.specs.declared.time_code.MaybeTimeCode.{MaybeTimeCode}
+
+-- a part that may be held: its own checks decide where it is, and its size goes with 0
+module _ (present : Bool) (cs : List Check) (size : ℕ) where
+  abbrev part : Answer
+  part = answer (verdict (when present cs)) (sizeWhen present size)
+
+  not-held : present ≡ false → done 0 ≡ part
+  not-held a = simp a
+
+  module _ (held : present ≡ true) (k : ℕ) where
+    held-refused : eqb (answer (verdict cs) k .number) 0 ≡ false → answer (verdict cs) k ≡ part
+    held-refused h = simp held (refused-shows (λ (a : Answer) (n : ℕ). a) (verdict cs) k size 0 0 h)
+
+    held-done : eqb (answer (verdict cs) k .number) 0 ≡ true → done size ≡ part
+    held-done h = simp held (done-shows (λ (a : Answer) (n : ℕ). a) (verdict cs) k size 0 0 h)
+
+-- so time code and services
+module _ (time : MaybeTimeCode) where
+  pub no-time : time .present ≡ false → done 0 ≡ timeAsked time
+  no-time a = not-held (time .present) (timeWriteChecks (time .«time_code»)) 5 a
+
+  module _ (held : time .present ≡ true) where
+    pub bad-time : eqb (timeWritten (time .«time_code») .answer .number) 0 ≡ false → timeWritten (time .«time_code») .answer ≡ timeAsked time
+    unfolding timeWritten
+    bad-time h = held-refused (time .present) (timeWriteChecks (time .«time_code»)) 5 held 0 h
+
+    pub good-time : eqb (timeWritten (time .«time_code») .answer .number) 0 ≡ true → done 5 ≡ timeAsked time
+    unfolding timeWritten
+    good-time h = held-done (time .present) (timeWriteChecks (time .«time_code»)) 5 held 0 h
+
+module _ (services : MaybeServiceInfo) where
+  abbrev list : ServiceInfo
+  list = services .«service_info»
+
+  pub no-list : services .present ≡ false → done 0 ≡ servicesAsked services
+  no-list a = not-held (services .present) (valueChecks list) (sectionLength (list .count)) a
+
+  module _ (held : services .present ≡ true) where
+    pub bad-list : eqb (valueAnswer list .number) 0 ≡ false → valueAnswer list ≡ servicesAsked services
+    unfolding valueAnswer
+    bad-list h = held-refused (services .present) (valueChecks list) (sectionLength (list .count)) held 0 h
+
+    pub good-list : eqb (valueAnswer list .number) 0 ≡ true → byteLen list ≡ servicesAsked services
+    unfolding valueAnswer
+    good-list h = value-length list h ∙ held-done (services .present) (valueChecks list) (sectionLength (list .count)) held 0 h
+
+-- where an answer is done, it is the size
+done-is : (v : Verdict) (size : ℕ) → eqb (answer v size .number) 0 ≡ true → answer v size ≡ done size
+done-is v size h = ap (λ (u : Verdict). answer u size) (done-clear v size h)
+
+-- a held list that can be written counts up to 15, so that its section has 107 bytes at most
+services-most : (present : Bool) (l : ServiceInfo) → verdict (when present (valueChecks l)) ≡ clear → sizeWhen present (2 + 7 * l .count) ≤ 107
+services-most true l h = let few : l .count ≤ 15 = leb-true _ _ (kept-first (countCheck l) (entryWriteChecks (counted l)) h) in omega arith
+services-most false l h = omega arith
+
+time-most : (present : Bool) → sizeWhen present 5 ≤ 5
+time-most true = omega arith
+time-most false = omega arith
+
+svc-info-most : (services : MaybeServiceInfo) → verdict (svcInfoChecks services) ≡ clear → svcInfoSize services ≤ 107
+svc-info-most services h = services-most (services .present) (services .«service_info») h
+
+time-code-most : (time : MaybeTimeCode) → timeCodeSize time ≤ 5
+time-code-most time = time-most (time .present)
+
+-- the two sizes that go with 0, as they are added up
+pub record Sizes (t s : Answer) (time : MaybeTimeCode) (services : MaybeServiceInfo) : Type 0 where
+  pub time-is : t .first ≡ timeCodeSize time
+  pub services-is : s .first ≡ svcInfoSize services
+  pub time-few : timeCodeSize time ≤ 5
+  pub services-few : svcInfoSize services ≤ 107
+
+pub sizes : (t s : Answer) (time : MaybeTimeCode) (services : MaybeServiceInfo) → t ≡ timeAsked time → s ≡ servicesAsked services
+    → eqb (t .number) 0 ≡ true → eqb (s .number) 0 ≡ true → Sizes t s time services
+sizes t s time services te se timed served =
+    let right = done-clear (verdict (svcInfoChecks services)) (svcInfoSize services) (rw se at served) in
+    record {
+      time-is = ap (λ (a : Answer). a .first) (te ∙ done-is (verdict (timeCodeChecks time)) (timeCodeSize time) (rw te at timed));
+      services-is = ap (λ (a : Answer). a .first) (se ∙ done-is (verdict (svcInfoChecks services)) (svcInfoSize services) (rw se at served));
+      time-few = time-code-most time;
+      services-few = svc-info-most services right;
+    }
+
+above-eight : (id : ℕ) → 8 < id → noRate ≡ fromId id
+above-eight id h =
+    no-row id (λ e. omega arith) (λ e. omega arith) (λ e. omega arith) (λ e. omega arith) (λ e. omega arith) (λ e. omega arith) (λ e. omega arith) (λ e. omega arith)
+
+-- an id that names a rate is 8 at most
+named-id : (id : ℕ) (small : Bool) → leb id 8 ≡ small → fromId id .present ≡ true → id ≤ 8
+named-id id true e h = leb-true _ _ e
+named-id id false e h = absurd (false≢true (ap (λ (r : MaybeFramerate). r .present) (above-eight id (leb-false _ _ e)) ∙ h))
+
+pub known-id : (rate : Framerate) → known rate ≡ true → rate .id ≤ 8
+known-id rate h = named-id (rate .id) (leb (rate .id) 8) refl (and-left _ _ h)
+
+module _ (rate : Framerate) (time : MaybeTimeCode) (services : MaybeServiceInfo) (run : ℕ) where
+  pub other-rate : known rate ≡ false → refused UnknownFramerate ≡ packetAsked rate time services run
+  other-rate a = simp a
+
+  module _ (rated : known rate ≡ true) where
+    pub run-long : 93 < run → refused WrongCaptionRun ≡ packetAsked rate time services run
+    run-long a = simp (rated, lt-leb _ _ a)
+
+    module _ (short : run ≤ 93) where
+      pub run-cut : (run % 3 ≡ 0 → ⊥) → refused WrongCaptionRun ≡ packetAsked rate time services run
+      run-cut a = simp (rated, le-leb _ _ short, ne-eqb _ _ a)
+
+      module _ (whole : run % 3 ≡ 0) where
+        abbrev behind : Verdict
+        behind = andThen (verdict (timeCodeChecks time)) (verdict (svcInfoChecks services))
+
+        as-parts : verdict (packetChecks rate time services run) ≡ behind
+        as-parts = simp (rated, le-leb _ _ short, eq-eqb _ _ whole) (verdict-append (timeCodeChecks time) (svcInfoChecks services))
+
+        pub time-refused : eqb (timeAsked time .number) 0 ≡ false → timeAsked time ≡ packetAsked rate time services run
+        time-refused h =
+            let v : Verdict = verdict (timeCodeChecks time) in
+            refused-shows (λ (a : Answer) (n : ℕ). a) v _ (packetLength time services run) 0 0 h
+            ∙ ap (λ (u : Verdict). answer u (packetLength time services run)) (sym (as-parts ∙ refused-stays v _ _ h))
+
+        module _ (timed : eqb (timeAsked time .number) 0 ≡ true) where
+          behind-time : verdict (packetChecks rate time services run) ≡ verdict (svcInfoChecks services)
+          behind-time = as-parts ∙ ap (λ (v : Verdict). andThen v (verdict (svcInfoChecks services))) (done-clear (verdict (timeCodeChecks time)) (timeCodeSize time) timed)
+
+          pub services-refused : eqb (servicesAsked services .number) 0 ≡ false → servicesAsked services ≡ packetAsked rate time services run
+          services-refused h =
+              refused-shows (λ (a : Answer) (n : ℕ). a) (verdict (svcInfoChecks services)) _ (packetLength time services run) 0 0 h
+              ∙ ap (λ (u : Verdict). answer u (packetLength time services run)) (sym behind-time)
+
+          pub all-right : eqb (servicesAsked services .number) 0 ≡ true → done (packetLength time services run) ≡ packetAsked rate time services run
+          all-right h = ap (λ (u : Verdict). answer u (packetLength time services run)) (sym (behind-time ∙ done-clear _ _ h))
+
+-- an answer 0 is a clear verdict, with the packet's length
+pub packet-asked : (rate : Framerate) (time : MaybeTimeCode) (services : MaybeServiceInfo) (run : ℕ) (a : Answer) → a ≡ packetAsked rate time services run → eqb (a .number) 0 ≡ true
+    → (verdict (packetChecks rate time services run) ≡ clear) × (a ≡ done (packetLength time services run))
+packet-asked rate time services run a e h =
+    let v : Verdict = verdict (packetChecks rate time services run) in
+    (done-clear v (packetLength time services run) (rw e at h), e ∙ done-is v (packetLength time services run) (rw e at h))
+
+-- what holds of a packet that can be written
+pub record Accepted (rate : Framerate) (time : MaybeTimeCode) (services : MaybeServiceInfo) (run : ℕ) : Type 0 where
+  pub rated : known rate ≡ true
+  pub short : run ≤ 93
+  pub whole : run % 3 ≡ 0
+  pub timed : verdict (timeCodeChecks time) ≡ clear
+  pub served : verdict (svcInfoChecks services) ≡ clear
+
+pub accepted : (rate : Framerate) (time : MaybeTimeCode) (services : MaybeServiceInfo) (run : ℕ) → verdict (packetChecks rate time services run) ≡ clear → Accepted rate time services run
+accepted rate time services run h =
+    let parts : List Check = timeCodeChecks time ++ svcInfoChecks services in
+    let triplets : Check = check (fullTriplets run) WrongCaptionRun in
+    let later : verdict (triplets ∷ parts) ≡ clear = kept-rest (check (known rate) UnknownFramerate) (triplets ∷ parts) h in
+    let full : fullTriplets run ≡ true = kept-first triplets parts later in
+    let both : andThen (verdict (timeCodeChecks time)) (verdict (svcInfoChecks services)) ≡ clear =
+    sym (verdict-append (timeCodeChecks time) (svcInfoChecks services)) ∙ kept-rest triplets parts later in
+    record {
+      rated = kept-first (check (known rate) UnknownFramerate) (triplets ∷ parts) h;
+      short = leb-true _ _ (and-left _ _ full);
+      whole = eqb-true _ _ (and-right (leb run 93) _ full);
+      timed = and-first _ _ both;
+      served = and-second (verdict (timeCodeChecks time)) _ both;
+    }
+
+-- The longest packet that is written has 218 bytes.
+pub length-most : (rate : Framerate) (time : MaybeTimeCode) (services : MaybeServiceInfo) (run : ℕ) → verdict (packetChecks rate time services run) ≡ clear → packetLength time services run ≤ 218
+length-most rate time services run h =
+    let a : Accepted rate time services run = accepted rate time services run h in
+    omega (arith, a .short, time-code-most time, svc-info-most services (a .served))

@@ -1,0 +1,54 @@
+-- Whether a packet can be written: its checks in their order, and its length.
+use mathlib.Core.Bool.{Bool, _&&_}
+use mathlib.Core.List.{List, _∷_, _++_}
+use Prim.Native.Nat.{ℕ, _+_, _%_}
+use lib.Dec.{eqb, leb}
+use Rattle.basis.specs.Answer.{UnknownFramerate, WrongCaptionRun}
+use Rattle.basis.specs.Check.{Check, check, when, sizeWhen, verdict, answer}
+use Rattle.values.specs.Rate.{known}
+use Rattle.times.specs.Time.{timeSize, timeWriteChecks}
+use Rattle.svc_entries.specs.Entries.{sectionLength}
+use Rattle.services.specs.Writing.{valueChecks}
+use Rattle.basis.specs.declared.answer.Answer.{Answer}
+use Rattle.services.specs.declared.list.MaybeServiceInfo.{MaybeServiceInfo}
+use Rattle.values.specs.declared.framerate.Framerate.{Framerate}
+use Rattle.times.specs.declared.time_code.MaybeTimeCode.{MaybeTimeCode}
+
+-- a caption run has at most 93 bytes, three for each triplet
+abbrev pub fullTriplets : ℕ → Bool
+fullTriplets run = leb run 93 && eqb (run % 3) 0
+
+-- what is not held is unread
+abbrev pub timeCodeChecks : MaybeTimeCode → List Check
+timeCodeChecks time = when (time .present) (timeWriteChecks (time .«time_code»))
+
+abbrev pub svcInfoChecks : MaybeServiceInfo → List Check
+svcInfoChecks services = when (services .present) (valueChecks (services .«service_info»))
+
+-- rate, caption run, time code, then count and entries of the list: whether a packet can be written at all
+abbrev pub packetChecks : Framerate → MaybeTimeCode → MaybeServiceInfo → ℕ → List Check
+packetChecks rate time services run =
+    check (known rate) UnknownFramerate
+    ∷ check (fullTriplets run) WrongCaptionRun
+    ∷ timeCodeChecks time
+    ++ svcInfoChecks services
+
+-- the sizes of the parts: header, time code, captions, services, footer
+abbrev pub timeCodeSize : MaybeTimeCode → ℕ
+timeCodeSize time = sizeWhen (time .present) timeSize
+
+abbrev pub svcInfoSize : MaybeServiceInfo → ℕ
+svcInfoSize services = sizeWhen (services .present) (sectionLength (services .«service_info» .count))
+
+abbrev pub packetLength : MaybeTimeCode → MaybeServiceInfo → ℕ → ℕ
+packetLength time services run = 7 + timeCodeSize time + (2 + run) + svcInfoSize services + 4
+
+-- what asking gives: of the time code, of the list, of the whole packet; with 0 goes the size
+abbrev pub timeAsked : MaybeTimeCode → Answer
+timeAsked time = answer (verdict (timeCodeChecks time)) (timeCodeSize time)
+
+abbrev pub servicesAsked : MaybeServiceInfo → Answer
+servicesAsked services = answer (verdict (svcInfoChecks services)) (svcInfoSize services)
+
+abbrev pub packetAsked : Framerate → MaybeTimeCode → MaybeServiceInfo → ℕ → Answer
+packetAsked rate time services run = answer (verdict (packetChecks rate time services run)) (packetLength time services run)

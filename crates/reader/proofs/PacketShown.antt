@@ -1,0 +1,62 @@
+-- What a packet shows: its checks decide, and the list is what its bytes hold.
+-- Assumes nothing.
+use mathlib.Core.Bool.{true, false, true≢false}
+use mathlib.Core.List.{List}
+use mathlib.Core.Path.{_≡_, _∙_, sym, refl}
+use Prim.Native.Nat.{ℕ}
+use lib.Dec.{eqb}
+use Rattle.basis.proofs.Verdicts.{done-clear, refused-not-done}
+use Rattle.basis.specs.Answer.{done}
+use Rattle.basis.specs.Check.{Verdict, answer, broken, clear, ifClear, verdict}
+use Rattle.header.specs.Header.{flagsIn, rateOf, sequenceIn}
+use Rattle.time_section.specs.TimeCode.{timeCodeOf}
+use Rattle.svc_section.specs.SvcInfo.{svcInfoShown}
+use Rattle.svc_section.proofs.SvcInfoReads.{shown-where-clear}
+use Rattle.checked.proofs.PacketReads.{given, svc-info-of-packet}
+use Rattle.checked.specs.Packet.{captionLength, ccDataAt, checkedRead, checkedShown, packetChecks, refusedChecked, svcInfoAt}
+use Rattle.reader.specs.Shown.{fresh, packetRead, refusedPacket, shownBy, state}
+use Rattle.reader.specs.declared.packet.PacketRead.{PacketRead}
+use Rattle.reader.specs.declared.parser.CDPParser.{CDPParser}
+use Rattle.checked.specs.declared.checked.Checked.{Checked}
+
+-- a packet before its list is made: what an accepted one holds, and the same answer
+given-done : (v : Verdict) (length : ℕ) (shown : Checked) → eqb (answer v length .number) 0 ≡ true → given v length shown ≡ shown
+given-done clear length shown h = refl
+given-done (broken why) length shown h = absurd (true≢false (sym h ∙ refused-not-done why))
+
+given-answer : (v : Verdict) (length : ℕ) (shown : Checked) → shown .answer ≡ done length → given v length shown .answer ≡ answer v length
+given-answer clear length shown e = e
+given-answer (broken why) length shown e = refl
+
+-- a refused packet shows what a new reader does
+none : (v : Verdict) (length : ℕ) (s : CDPParser) (at : ℕ) → eqb (answer v length .number) 0 ≡ false
+    → _≡_ {A = PacketRead} (refusedPacket (answer v length)) (record { answer = answer v length; shown = ifClear v s fresh; «cc_data_at» = ifClear v at 0 })
+none clear length s at h = absurd (true≢false h)
+none (broken why) length s at h = refl
+
+module _ (p : List ℕ) where
+  pub checks-answer : checkedRead p .answer ≡ packetRead p .answer
+  unfolding packetRead checkedRead
+  checks-answer = given-answer (verdict (packetChecks p)) (captionLength p) (checkedShown p) refl
+
+  pub accepts : eqb (packetRead p .answer .number) 0 ≡ true → checkedRead p ≡ checkedShown p
+  unfolding packetRead checkedRead
+  accepts h = given-done (verdict (packetChecks p)) (captionLength p) (checkedShown p) h
+
+  -- a packet's answer decides what it shows
+  pub none-shown : eqb (packetRead p .answer .number) 0 ≡ false → refusedPacket (packetRead p .answer) ≡ packetRead p
+  unfolding packetRead
+  none-shown h = none (verdict (packetChecks p)) (captionLength p) (shownBy p) (ccDataAt p) h
+
+  pub all-shown : eqb (packetRead p .answer .number) 0 ≡ true
+      → _≡_ {A = PacketRead}
+      (record {
+        answer = done (captionLength p);
+        shown = state (rateOf p) (timeCodeOf p (flagsIn p .«time_code») 7) (sequenceIn p) (svcInfoShown p (flagsIn p) (svcInfoAt p));
+        «cc_data_at» = ccDataAt p;
+      })
+      (packetRead p)
+  unfolding packetRead shownBy
+  all-shown h =
+      let v : verdict (packetChecks p) ≡ clear = done-clear (verdict (packetChecks p)) (captionLength p) h in
+      rw (v, shown-where-clear p (flagsIn p) (svcInfoAt p) (svc-info-of-packet p v))

@@ -1,3 +1,0 @@
-pub mod CcDataReads
-pub mod HeaderReads
-pub mod TimeCodeReads

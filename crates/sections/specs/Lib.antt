@@ -1,4 +1,0 @@
-pub mod Section
-pub mod Header
-pub mod TimeCode
-pub mod CcData
