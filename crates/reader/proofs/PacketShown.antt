@@ -2,10 +2,10 @@
 -- Assumes nothing.
 use mathlib.Core.Bool.{true, false, true≢false}
 use mathlib.Core.List.{List}
-use mathlib.Core.Path.{_≡_, _∙_, sym, refl}
+use mathlib.Core.Path.{_≡_, refl}
 use Prim.Native.Nat.{ℕ}
 use lib.Dec.{eqb}
-use Rattle.basis.proofs.Verdicts.{done-clear, refused-not-done}
+use Rattle.basis.proofs.Verdicts.{done-clear, done-value}
 use Rattle.basis.specs.Answer.{done}
 use Rattle.basis.specs.Check.{Verdict, answer, broken, clear, ifClear, verdict}
 use Rattle.header.specs.Header.{flagsIn, rateOf, sequenceIn}
@@ -19,11 +19,7 @@ use Rattle.reader.specs.declared.packet.PacketRead.{PacketRead}
 use Rattle.reader.specs.declared.parser.CDPParser.{CDPParser}
 use Rattle.checked.specs.declared.checked.Checked.{Checked}
 
--- a packet before its list is made: what an accepted one holds, and the same answer
-given-done : (v : Verdict) (length : ℕ) (shown : Checked) → eqb (answer v length .number) 0 ≡ true → given v length shown ≡ shown
-given-done clear length shown h = refl
-given-done (broken why) length shown h = absurd (true≢false (sym h ∙ refused-not-done why))
-
+-- a packet before its list is made has the same answer
 given-answer : (v : Verdict) (length : ℕ) (shown : Checked) → shown .answer ≡ done length → given v length shown .answer ≡ answer v length
 given-answer clear length shown e = e
 given-answer (broken why) length shown e = refl
@@ -41,7 +37,7 @@ module _ (p : List ℕ) where
 
   pub accepts : eqb (packetRead p .answer .number) 0 ≡ true → checkedRead p ≡ checkedShown p
   unfolding packetRead checkedRead
-  accepts h = given-done (verdict (packetChecks p)) (captionLength p) (checkedShown p) h
+  accepts h = done-value (verdict (packetChecks p)) (captionLength p) (checkedShown p) (refusedChecked (answer (verdict (packetChecks p)) (captionLength p))) h
 
   -- a packet's answer decides what it shows
   pub none-shown : eqb (packetRead p .answer .number) 0 ≡ false → refusedPacket (packetRead p .answer) ≡ packetRead p

@@ -1,10 +1,10 @@
 -- The first demand holds: every answer is that of a verdict, and a broken verdict leaves a buffer as it was.
 -- Assumes nothing.
-use mathlib.Core.Bool.{true}
+use mathlib.Core.Bool.{Bool, true, false, _||_}
 use mathlib.Core.List.{List, [], _∷_, _++_}
 use mathlib.Core.Path.{_≡_, refl, sym}
 use Prim.Native.Nat.{ℕ}
-use lib.Dec.{ltb}
+use lib.Dec.{eqb, ltb}
 use lib.ListN.{length}
 use Rattle.basis.proofs.Verdicts.{refused-shows}
 use Rattle.basis.specs.Answer as Table
@@ -38,21 +38,28 @@ use Rattle.services.specs.declared.list.ServiceInfo.{ServiceInfo}
 use Rattle.values.specs.declared.framerate.Framerate.{Framerate}
 use Rattle.writer.specs.declared.writer.CDPWriter.{CDPWriter}
 
-in-table : (v : Verdict) (length : ℕ) → inTable (answer v length) ≡ true
-in-table clear length = refl
-in-table (broken (Table.LengthMismatch expected actual)) length = refl
-in-table (broken Table.WrongMagic) length = refl
-in-table (broken Table.UnknownFramerate) length = refl
-in-table (broken Table.InvalidFixedBits) length = refl
-in-table (broken Table.ChecksumFailed) length = refl
-in-table (broken Table.SequenceCountMismatch) length = refl
-in-table (broken Table.ServiceNumberMismatch) length = refl
-in-table (broken Table.InvalidServiceNumber) length = refl
-in-table (broken Table.ServiceFlagsMismatched) length = refl
-in-table (broken Table.WouldOverflow) length = refl
-in-table (broken (Table.BufferTooShort needed given)) length = refl
-in-table (broken Table.NotWritable) length = refl
-in-table (broken Table.WrongCaptionRun) length = refl
+in-table : (measured : Bool) (v : Verdict) (length : ℕ) → (measured || eqb length 0) ≡ true → inTable measured (answer v length) ≡ true
+in-table measured clear length h = rw h
+in-table measured (broken (Table.LengthMismatch expected actual)) length h = refl
+in-table measured (broken Table.WrongMagic) length h = refl
+in-table measured (broken Table.UnknownFramerate) length h = refl
+in-table measured (broken Table.InvalidFixedBits) length h = refl
+in-table measured (broken Table.ChecksumFailed) length h = refl
+in-table measured (broken Table.SequenceCountMismatch) length h = refl
+in-table measured (broken Table.ServiceNumberMismatch) length h = refl
+in-table measured (broken Table.InvalidServiceNumber) length h = refl
+in-table measured (broken Table.ServiceFlagsMismatched) length h = refl
+in-table measured (broken Table.WouldOverflow) length h = refl
+in-table measured (broken (Table.BufferTooShort needed given)) length h = refl
+in-table measured (broken Table.NotWritable) length h = refl
+in-table measured (broken Table.WrongCaptionRun) length h = refl
+
+-- a call that gives a length with 0, and one that gives 0
+with-length : (v : Verdict) (length : ℕ) → inTable true (answer v length) ≡ true
+with-length v length = in-table true v length refl
+
+without : (v : Verdict) → inTable false (answer v 0) ≡ true
+without v = in-table false v 0 refl
 
 -- a writer that is refused leaves the buffer as it was
 left : (v : Verdict) (bytes buffer : List ℕ) → refuses (written v bytes buffer .answer) → written v bytes buffer .buffer ≡ buffer
@@ -73,27 +80,27 @@ pub first-demand : FirstDemand
 unfolding read packetRead Header.headerRead TimeCode.timeCodeRead CcData.ccDataRead SvcInfo.svcInfoRead Footer.closingRead entriesRead Section.sectionRead Entry.entryRead Time.timeRead Time.timeWritten Writing.packetWritten sectionWritten entryWritten valueAnswer setServiceInfo
 first-demand =
     record {
-      packetRead = λ s p room. in-table (verdict (readChecks p room)) (captionLength p);
-      sectionRead = λ d. in-table (verdict (sectionChecks d)) 0;
-      entryRead = λ bytes. in-table (verdict (Entry.entryChecks bytes)) 0;
-      timeRead = λ hours minutes seconds frames. in-table (verdict (Time.timeChecks hours minutes seconds frames)) 0;
-      headerRead = λ p. in-table (verdict (Header.headerChecks p)) 0;
-      timeCodeRead = λ p present i. in-table (verdict (when present (TimeCode.timeCodeChecks p i))) (sizeWhen present Time.timeSize);
-      captionsRead = λ p present i. in-table (verdict (when present (CcData.ccDataChecks p i))) (sizeWhen present (CcData.ccDataSize p i));
-      servicesRead = λ p f i. in-table (verdict (when (f .«svc_info») (SvcInfo.svcInfoChecks p f i))) (sizeWhen (f .«svc_info») (SvcInfo.svcInfoSize p i));
-      closingRead = λ p sequence i. in-table (verdict (Footer.closingChecks p sequence i)) 0;
-      entriesRead = λ d. in-table (verdict (sectionChecks d)) 0;
-      checkedRead = λ p. rw (checks-answer p) (in-table (verdict (packetChecks p)) (captionLength p));
-      statelessRead = λ p. in-table (verdict (packetChecks p)) (captionLength p);
-      packetAnswered = λ w rate captions buffer. in-table (packetVerdict w rate captions buffer) (Checks.packetLength (w .«time_code») (w .«service_info») (length captions));
-      packetTested = λ rate time services run. in-table (verdict (Checks.packetChecks rate time services run)) (Checks.packetLength time services run);
-      sectionAnswered = λ l buffer. in-table (sectionVerdict l buffer) (length (sectionBytes l));
-      entryAnswered = λ e buffer. in-table (entryVerdict e buffer) 6;
-      timeAnswered = λ t. in-table (verdict (Time.timeWriteChecks t)) 0;
-      listAdded = λ l e. in-table (verdict (check (ltb (l .count) places) Table.WouldOverflow ∷ [])) 0;
-      listMeasured = λ l. in-table (verdict (countCheck l ∷ [])) (sectionLength (l .count));
-      listTested = λ l. in-table (verdict (valueChecks l)) 0;
-      listSet = λ w services. in-table (verdict (setChecks services)) 0;
+      packetRead = λ s p room. with-length (verdict (readChecks p room)) (captionLength p);
+      sectionRead = λ d. without (verdict (sectionChecks d));
+      entryRead = λ bytes. without (verdict (Entry.entryChecks bytes));
+      timeRead = λ hours minutes seconds frames. without (verdict (Time.timeChecks hours minutes seconds frames));
+      headerRead = λ p. without (verdict (Header.headerChecks p));
+      timeCodeRead = λ p present i. with-length (verdict (when present (TimeCode.timeCodeChecks p i))) (sizeWhen present Time.timeSize);
+      captionsRead = λ p present i. with-length (verdict (when present (CcData.ccDataChecks p i))) (sizeWhen present (CcData.ccDataSize p i));
+      servicesRead = λ p f i. with-length (verdict (when (f .«svc_info») (SvcInfo.svcInfoChecks p f i))) (sizeWhen (f .«svc_info») (SvcInfo.svcInfoSize p i));
+      closingRead = λ p sequence i. without (verdict (Footer.closingChecks p sequence i));
+      entriesRead = λ d. without (verdict (sectionChecks d));
+      checkedRead = λ p. rw (checks-answer p) (with-length (verdict (packetChecks p)) (captionLength p));
+      statelessRead = λ p. with-length (verdict (packetChecks p)) (captionLength p);
+      packetAnswered = λ w rate captions buffer. with-length (packetVerdict w rate captions buffer) (Checks.packetLength (w .«time_code») (w .«service_info») (length captions));
+      packetTested = λ rate time services run. with-length (verdict (Checks.packetChecks rate time services run)) (Checks.packetLength time services run);
+      sectionAnswered = λ l buffer. with-length (sectionVerdict l buffer) (length (sectionBytes l));
+      entryAnswered = λ e buffer. with-length (entryVerdict e buffer) 6;
+      timeAnswered = λ t. without (verdict (Time.timeWriteChecks t));
+      listAdded = λ l e. without (verdict (check (ltb (l .count) places) Table.WouldOverflow ∷ []));
+      listMeasured = λ l. with-length (verdict (countCheck l ∷ [])) (sectionLength (l .count));
+      listTested = λ l. without (verdict (valueChecks l));
+      listSet = λ w services. without (verdict (setChecks services));
       readerWrites = Refusals.refusal-writes-nothing;
       packetWrites = λ w rate captions buffer. PacketWrites.refusal-writes-nothing rate (w .sequence) (w .«time_code») (w .«service_info») captions buffer;
       sectionWrites = λ l buffer. left (sectionVerdict l buffer) (sectionBytes l) buffer;

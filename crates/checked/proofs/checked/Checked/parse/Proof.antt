@@ -75,7 +75,7 @@ returns : tie.Need-returns
 returns c =
     let e = c .before .before .before .before .parse .ensures in
     let wrong = sym (c .before .before .is-done .ensures) ∙ not-true _ (c .before .if1 .taken) in
-    c .refused .ensures ∙ (rw e (header-refused _ (rw e at wrong)))
+    c .refused .ensures ∙ rw e (header-refused _ (rw e at wrong))
 
 parse-requires-2 : tie.Need-parse-requires-2
 parse-requires-2 c κs = search needs
@@ -91,7 +91,7 @@ returns-2 c =
     let s = c .before .before .before .before .before .before in
     let e = rw (header-result s) at (c .before .before .before .before .parse2 .ensures) in
     let wrong = sym (c .before .before .is-done2 .ensures) ∙ not-true _ (c .before .if2 .taken) in
-    c .refused2 .ensures ∙ (rw e (time-code-refused _ (header-kept s) (rw e at wrong)))
+    c .refused2 .ensures ∙ rw e (time-code-refused _ (header-kept s) (rw e at wrong))
 
 add-cc-data-at : tie.Need-add-cc-data-at
 add-cc-data-at c = rw (time-code-result (c .before)) (omega (arith, cc-data-near (packet2 (c .before))))
@@ -114,7 +114,7 @@ returns-3 c =
     let s = t .before .before .before .before .before in
     let e = rw (header-result s, time-code-result t) at (c .before .before .before .cc-data .ensures) in
     let wrong = sym (c .before .before .is-done3 .ensures) ∙ not-true _ (c .before .if3 .taken) in
-    c .refused3 .ensures ∙ (ap refusedChecked e ∙ cc-data-refused _ (header-kept s) (time-code-kept t) (rw e at wrong))
+    c .refused3 .ensures ∙ ap refusedChecked e ∙ cc-data-refused _ (header-kept s) (time-code-kept t) (rw e at wrong)
 
 add-svc-info-at : tie.Need-add-svc-info-at
 add-svc-info-at c = rw (time-code-result (c .before .before .before .before .before), cc-data-result (c .before)) (omega (arith, svc-info-near (packet3 (c .before))))
@@ -138,7 +138,7 @@ returns-4 c =
     let s = t .before .before .before .before .before in
     let e = rw (header-result s, time-code-result t, cc-data-result u) at (c .before .before .before .before .parse3 .ensures) in
     let wrong = sym (c .before .before .is-done4 .ensures) ∙ not-true _ (c .before .if4 .taken) in
-    c .refused4 .ensures ∙ (rw e (svc-info-refused _ (header-kept s) (time-code-kept t) (cc-data-kept u) (rw e at wrong)))
+    c .refused4 .ensures ∙ rw e (svc-info-refused _ (header-kept s) (time-code-kept t) (cc-data-kept u) (rw e at wrong))
 
 add-closing-at : tie.Need-add-closing-at
 add-closing-at c = rw (time-code-result (c .before .before .before .before .before .before .before .before .before .before), cc-data-result (c .before .before .before .before .before .before), svc-info-result (c .before)) (omega (arith, closing-near (packet4 (c .before))))
@@ -163,7 +163,7 @@ returns-5 c =
     let s = t .before .before .before .before .before in
     let e = rw (header-result s, time-code-result t, cc-data-result u, svc-info-result v) at (c .before .before .before .closing .ensures) in
     let wrong = sym (c .before .before .is-done5 .ensures) ∙ not-true _ (c .before .if5 .taken) in
-    c .refused5 .ensures ∙ (ap refusedChecked e ∙ closing-refused _ (header-kept s) (time-code-kept t) (cc-data-kept u) (svc-info-kept v) (rw e at wrong))
+    c .refused5 .ensures ∙ ap refusedChecked e ∙ closing-refused _ (header-kept s) (time-code-kept t) (cc-data-kept u) (svc-info-kept v) (rw e at wrong)
 
 cast-t18 : tie.Need-cast-t18
 cast-t18 c =
