@@ -32,7 +32,9 @@ use Rattle.checked.specs.Packet.{captionLength, ccDataAt, closingAt, footerAt, 
 use Rattle.reader.specs.Shown.{shownBy, state}
 use Rattle.reader.specs.Reader.{captionsOf}
 use Rattle.altered.proofs.Outside.{Same, before, behind, captions-same, captions-size, closing-same, header-same, section-fits, time-same, time-shown}
-use Rattle.altered.proofs.Spans.{byte-part, bytes-same, count-at}
+use Rattle.altered.proofs.Spans.{bytes-same}
+use Rattle.basis.proofs.Places.{byte-of-part}
+use Rattle.svc_section.proofs.SvcInfoReads.{count-at}
 use Rattle.altered.specs.Alteration.{Altered, Put, captionsFrom, mendedFlags, newCaptions, newList, sectionIn}
 use Rattle.basis.specs.declared.answer.Answer.{Answer}
 use Rattle.services.specs.declared.list.ServiceInfo.{ServiceInfo}
@@ -150,7 +152,7 @@ module _ (p q : List ℕ) (a : Altered p q) where
         let two : Check = check (leb 2 (length own)) (LengthMismatch 2 (length own)) in
         let first : Check = check (eqb (byte own 0) servicesId) WrongMagic in
         let id : byte own 0 ≡ servicesId = eqb-true _ _ (kept-first first (drop 2 (sectionChecks own)) (kept-rest two (drop 1 (sectionChecks own)) own-clear)) in
-        ap (byte q) (sym (add-zero at)) ∙ sym (byte-part q at (svcInfoSize q at) 0 (omega arith)) ∙ id
+        ap (byte q) (sym (add-zero at)) ∙ sym (byte-of-part q at (svcInfoSize q at) 0 (omega arith)) ∙ id
 
     own-fits : at + svcInfoSize q at ≤ length q
     own-fits =

@@ -22,7 +22,9 @@ use Rattle.header.specs.Header.{flagsIn}
 use Rattle.svc_section.specs.SvcInfo.{svcInfoSize}
 use Rattle.checked.specs.Packet.{closingAt, footerAt, packetChecks, svcInfoAt}
 use Rattle.altered.proofs.Outside.{Same, further}
-use Rattle.altered.proofs.Spans.{byte-part, count-at, parts-same}
+use Rattle.altered.proofs.Spans.{parts-same}
+use Rattle.basis.proofs.Places.{byte-of-part}
+use Rattle.svc_section.proofs.SvcInfoReads.{count-at}
 use Rattle.altered.specs.Alteration.{OtherCaptions, OtherServices, Put, captionsFrom, mendedFlags, sectionIn}
 use Rattle.altered.specs.Mending.{captionsPut, mended, sectionPut}
 use Rattle.basis.specs.declared.answer.Answer.{Answer}
@@ -144,13 +146,13 @@ module _ (p : List ℕ) (accepted : verdict (packetChecks p) ≡ clear) (ends : 
 
     pub section-there : sectionIn p q ≡ section
     section-there =
-        let count : byte q (at + 1) ≡ byte section 1 = sym (byte-part q at (length section) 1 (omega (arith, own-long))) ∙ ap (λ (d : List ℕ). byte d 1) there in
+        let count : byte q (at + 1) ≡ byte section 1 = sym (byte-of-part q at (length section) 1 (omega (arith, own-long))) ∙ ap (λ (d : List ℕ). byte d 1) there in
         ap (λ (b : ℕ). part at (sectionLength (under x0F b)) q) count ∙ ap (λ (n : ℕ). part at n q) (sym own-long) ∙ there
 
     flags-there : byte q 4 ≡ flags
     flags-there =
         q-byte 4 (omega (arith, end))
-        ∙ sym (byte-part outer 4 1 0 (omega arith))
+        ∙ sym (byte-of-part outer 4 1 0 (omega arith))
         ∙ ap (λ (d : List ℕ). byte d 0) (over-inside 4 (flags ∷ []) inner room-4)
 
     pub section-put : OtherServices p q

@@ -5,18 +5,9 @@ use mathlib.Core.Path.{_≡_, _∙_, sym, ap}
 use Prim.Native.Nat.{ℕ, _+_, _-_, _≤_, _<_}
 use native.Mathlib.Omega.{arith}
 use lib.ListN.{drop, length, length-drop, length-take}
-use lib.Seq.{ext-getD, getD-drop, getD-take}
+use lib.Seq.{ext-getD}
+use Rattle.basis.proofs.Places.{byte-of-part}
 use Rattle.basis.specs.Bytes.{byte, part}
-use Rattle.basis.specs.Mask.{under, x0F}
-use Rattle.svc_entries.specs.Entries.{countOf}
-use Rattle.svc_section.specs.SvcInfo.{svcInfoBytes, svcInfoSize}
-
-pub byte-part : (p : List ℕ) (at count i : ℕ) → i < count → byte (part at count p) i ≡ byte p (at + i)
-byte-part p at count i h = getD-take count (drop at p) i 0 h ∙ getD-drop at p i 0
-
--- the count that a section in a packet has
-pub count-at : (p : List ℕ) (i : ℕ) → countOf (svcInfoBytes p i) ≡ under x0F (byte p (i + 1))
-count-at p i = ap (under x0F) (byte-part p i (svcInfoSize p i) 1 (omega arith))
 
 module _ (p q : List ℕ) where
   pub bytes-same : (at count : ℕ) → part at count q ≡ part at count p
@@ -25,9 +16,9 @@ module _ (p q : List ℕ) where
       let inside : i - at < count = omega arith in
       let place : at + (i - at) ≡ i = omega arith in
       ap (byte q) (sym place)
-      ∙ sym (byte-part q at count (i - at) inside)
+      ∙ sym (byte-of-part q at count (i - at) inside)
       ∙ ap (λ (d : List ℕ). byte d (i - at)) h
-      ∙ byte-part p at count (i - at) inside
+      ∙ byte-of-part p at count (i - at) inside
       ∙ ap (byte p) place
 
   part-long : length q ≡ length p → (at count : ℕ) → length (part at count q) ≡ length (part at count p)
@@ -40,4 +31,4 @@ module _ (p q : List ℕ) where
       ext-getD 0 (part at count q) (part at count p) (part-long size at count)
       (λ (i : ℕ) (inside : i < length (part at count q)).
       let few : i < count = omega (arith, inside, length-take count (drop at q)) in
-      byte-part q at count i few ∙ h (at + i) (omega arith) (omega (arith, few)) ∙ sym (byte-part p at count i few))
+      byte-of-part q at count i few ∙ h (at + i) (omega arith) (omega (arith, few)) ∙ sym (byte-of-part p at count i few))

@@ -1,15 +1,20 @@
 -- Bytes put into a buffer: none, one more, all of them; and where they do not fit.
 -- Assumes nothing.
-use mathlib.Core.Path.{_≡_, _∙_, sym, ap, ap₂}
-use mathlib.Core.List.{List, [], _++_, append-assoc, append-nil}
+use mathlib.Core.Bool.{Bool, true, false, cond}
+use mathlib.Core.Path.{_≡_, _∙_, sym, refl, ap, ap₂}
+use mathlib.Core.List.{List, [], _∷_, _++_, append-assoc, append-nil}
 use Prim.Native.Nat.{ℕ, _+_, _-_, _≤_, _<_}
 use native.Mathlib.Nat.{add-zero, zero-add}
 use native.Mathlib.Numerals.{add-one}
 use native.Mathlib.Omega.{arith}
-use borrow.Author.Tests.{le-leb, lt-leb}
+use borrow.Author.Tests.{le-leb, leb-true}
+use lib.Dec.{leb}
 use lib.ListN.{length, getD, set, take, drop, length-append, length-drop, length-take, drop-of-length-le, take-append-drop}
 use lib.Seq.{paste, paste-zero, paste-suc, length-paste, take-all, take-append-seam, take-at, drop-append-add, drop-drop}
-use Rattle.basis.specs.Bytes.{over, put}
+use Rattle.basis.specs.Answer.{BufferTooShort, Refusal, done}
+use Rattle.basis.specs.Bytes.{over}
+use Rattle.basis.specs.Code.{fitting, put, putAnswer}
+use Rattle.basis.specs.Check.{answer, broken, clear, ifClear}
 
 -- the buffer with the first k of the bytes put
 unfoldable pub copied : ℕ → ℕ → List ℕ → List ℕ → List ℕ
@@ -29,13 +34,15 @@ module _ (at : ℕ) (bytes buffer : List ℕ) where
   unfolding copied over
   copied-all k h = rw (h, take-all (length bytes) bytes (omega arith))
 
-  pub put-fits : at + length bytes ≤ length buffer → put at bytes buffer ≡ over at bytes buffer
-  unfolding put
-  put-fits h = simp (le-leb _ _ h)
+  -- room for all of them
+  pub fits-clear : at + length bytes ≤ length buffer → (done 0 ≡ putAnswer at bytes buffer) × (over at bytes buffer ≡ put at bytes buffer)
+  unfolding putAnswer put
+  fits-clear h =
+      let room : length bytes ≤ length buffer - at = omega arith in
+      (simp (le-leb _ _ room), simp (le-leb _ _ room))
 
-  pub put-short : length buffer < at + length bytes → put at bytes buffer ≡ buffer
-  unfolding put
-  put-short h = simp (lt-leb _ _ h)
+  pub put-fits : at + length bytes ≤ length buffer → put at bytes buffer ≡ over at bytes buffer
+  put-fits h = sym (fits-clear h .1)
 
   pub length-over : at + length bytes ≤ length buffer → length (over at bytes buffer) ≡ length buffer
   unfolding copied
@@ -89,6 +96,19 @@ part-over at bytes buffer =
 pub over-nil : (at : ℕ) (buffer : List ℕ) → over at [] buffer ≡ buffer
 unfolding over
 over-nil at buffer = rw (append-nil (take at buffer), add-zero at) (take-append-drop at buffer)
+
+-- where there is no room, or only for nothing past the end, nothing is changed
+nothing-put : (at : ℕ) (bytes buffer : List ℕ) (why : Refusal) (fits : Bool) → leb (length bytes) (length buffer - at) ≡ fits
+    → length buffer < at + length bytes → buffer ≡ ifClear (cond fits clear (broken why)) (over at bytes buffer) buffer
+nothing-put at bytes buffer why false e h = refl
+nothing-put at [] buffer why true e h = sym (over-nil at buffer)
+nothing-put at (x ∷ xs) buffer why true e h = absurd (omega (arith, leb-true (length (x ∷ xs)) (length buffer - at) e))
+
+pub short-refused : (at : ℕ) (bytes buffer : List ℕ) → length buffer < at + length bytes
+    → (answer (fitting at bytes buffer) 0 ≡ putAnswer at bytes buffer) × (buffer ≡ put at bytes buffer)
+unfolding putAnswer put
+short-refused at bytes buffer h =
+    (refl, nothing-put at bytes buffer (BufferTooShort (length bytes) (length buffer - at)) (leb (length bytes) (length buffer - at)) refl h)
 
 -- what was put at the start stands there
 pub take-over : (bytes buffer : List ℕ) → take (length bytes) (over 0 bytes buffer) ≡ bytes

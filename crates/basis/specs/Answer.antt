@@ -1,5 +1,4 @@
 -- The table of answers in docs/RULES.md: every number with the two values that go with it.
-use mathlib.Core.List.{List, [], _∷_}
 use Prim.Native.Nat.{ℕ}
 use Rattle.basis.specs.declared.answer.Answer.{Answer}
 
@@ -48,19 +47,3 @@ refused WouldOverflow = record { number = 10; first = 1; second = 0 }
 refused (BufferTooShort needed given) = record { number = 11; first = needed; second = given }
 refused NotWritable = plain 12
 refused WrongCaptionRun = plain 13
-
--- the refusals whose two values are always the same, in the order of the table
-abbrev pub constants : List Answer
-constants =
-    refused WrongMagic
-    ∷ refused UnknownFramerate
-    ∷ refused InvalidFixedBits
-    ∷ refused ChecksumFailed
-    ∷ refused SequenceCountMismatch
-    ∷ refused ServiceNumberMismatch
-    ∷ refused InvalidServiceNumber
-    ∷ refused ServiceFlagsMismatched
-    ∷ refused WouldOverflow
-    ∷ refused NotWritable
-    ∷ refused WrongCaptionRun
-    ∷ []

@@ -1,8 +1,6 @@
 -- Bytes by their place, and bytes put into a lent buffer.
-use mathlib.Core.Bool.{cond}
 use mathlib.Core.List.{List, _++_}
 use Prim.Native.Nat.{ℕ, _+_}
-use lib.Dec.{leb}
 use lib.ListN.{length, getD, take, drop}
 
 -- the byte at a place, 0 past the end
@@ -16,7 +14,3 @@ part at count bytes = take count (drop at bytes)
 -- the buffer with these bytes from a place on, and the rest as it was
 unfoldable pub over : ℕ → List ℕ → List ℕ → List ℕ
 over at bytes buffer = take at buffer ++ bytes ++ drop (at + length bytes) buffer
-
--- the same where they fit, else the buffer as it was
-unfoldable pub put : ℕ → List ℕ → List ℕ → List ℕ
-put at bytes buffer = cond (leb (at + length bytes) (length buffer)) (over at bytes buffer) buffer

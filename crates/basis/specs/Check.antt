@@ -4,7 +4,7 @@ use mathlib.Core.List.{List, [], _∷_}
 use Prim.Native.Nat.{ℕ}
 use lib.Dec.{leb}
 use lib.ListN.{length}
-use Rattle.basis.specs.Answer.{LengthMismatch, Refusal, done, refused}
+use Rattle.basis.specs.Answer.{BufferTooShort, LengthMismatch, Refusal, done, refused}
 use Rattle.basis.specs.declared.answer.Answer.{Answer}
 
 -- one rule at one place: whether it is kept, and what is answered where it is broken
@@ -18,6 +18,10 @@ check kept refusal = record { kept = kept; refusal = refusal }
 -- at least so many bytes, or 1 with that and how many there are
 abbrev pub sizeCheck : List ℕ → ℕ → Check
 sizeCheck p least = check (leb least (length p)) (LengthMismatch least (length p))
+
+-- room for so many bytes, or 11 with that and how many were lent
+abbrev pub roomCheck : ℕ → ℕ → Check
+roomCheck needed given = check (leb needed given) (BufferTooShort needed given)
 
 -- the checks and the size of a part that may be there
 abbrev pub when : Bool → List Check → List Check

@@ -2,3 +2,4 @@ pub mod Answer
 pub mod Bytes
 pub mod Check
 pub mod Mask
+pub mod Code

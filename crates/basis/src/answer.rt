@@ -2,6 +2,7 @@
 ghost use mathlib.Core.Path.{_≡_};
 ghost use lib.Dec.{eqb};
 ghost use Rattle.basis.specs.Answer as Table;
+ghost use Rattle.basis.specs.Code as Code;
 
 pub struct Answer {
     pub number: u8,
@@ -132,7 +133,7 @@ impl Answer {
 
     // Nothing calls this: its contract holds every constant above to the table.
     fn held() -> [Self; 11]
-        ensures { λ r. ⌜ r ≡ Table.constants ⌝ }
+        ensures { λ r. ⌜ r ≡ Code.constants ⌝ }
     {
         [
             Self::WRONG_MAGIC,

@@ -2,8 +2,9 @@
 mod answer;
 mod bits;
 mod buffer;
+mod tested;
 
 pub use answer::Answer;
 pub use bits::flag;
-pub use buffer::byte;
 pub use buffer::put;
+pub use tested::Tested;

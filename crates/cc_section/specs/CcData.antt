@@ -1,15 +1,12 @@
 -- Rule 6: the captions, 2+3c bytes from i on, and what is handed out of them.
-use mathlib.Core.Bool.{Bool, cond, _&&_}
 use mathlib.Core.List.{List, [], _∷_}
 use Prim.Native.Nat.{ℕ, _+_, _*_}
-use lib.Dec.{eqb, leb}
-use lib.ListN.{length}
+use lib.Dec.{eqb}
 use Rattle.basis.specs.Answer.{WrongMagic, InvalidFixedBits}
-use Rattle.basis.specs.Bytes.{byte, part, put}
-use Rattle.basis.specs.Check.{Check, check, when, sizeWhen, verdict, answer, sizeCheck}
+use Rattle.basis.specs.Bytes.{byte, part}
+use Rattle.basis.specs.Check.{Check, check, sizeCheck}
 use Rattle.basis.specs.Mask.{under, allSet, xE0, x1F}
 use Rattle.values.specs.Packet.{captionsId}
-use Rattle.basis.specs.declared.answer.Answer.{Answer}
 
 -- the count c is the low five bits of byte i+1
 abbrev pub ccCount : List ℕ → ℕ → ℕ
@@ -27,15 +24,6 @@ ccDataChecks p i =
     ∷ sizeCheck p (i + ccDataSize p i)
     ∷ []
 
--- what reading the section gives; with 0 goes how far i moves on, which is also how many bytes are handed out
-unfoldable pub ccDataRead : List ℕ → Bool → ℕ → Answer
-ccDataRead p present i = answer (verdict (when present (ccDataChecks p i))) (sizeWhen present (ccDataSize p i))
-
 -- C0 + c, FF and the 3c bytes
 abbrev pub handedOut : List ℕ → ℕ → List ℕ
 handedOut p i = (0xC0 + ccCount p i) ∷ 0xFF ∷ part (i + 2) (3 * ccCount p i) p
-
--- they become the first bytes of a lent buffer that has room for them, where the packet has a section and all its bytes
-unfoldable pub handOut : List ℕ → Bool → ℕ → List ℕ → List ℕ
-handOut p present i buffer =
-    cond (present && leb (i + ccDataSize p i) (length p)) (put 0 (handedOut p i) buffer) buffer

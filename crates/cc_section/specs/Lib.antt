@@ -1,1 +1,2 @@
 pub mod CcData
+pub mod Code

@@ -2,4 +2,3 @@
 mod captions;
 
 pub use captions::cc_data;
-pub use captions::hand_out;

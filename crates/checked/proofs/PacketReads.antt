@@ -13,21 +13,27 @@ use Rattle.basis.specs.Answer.{LengthMismatch, UnknownFramerate, WrongMagic, do
 use Rattle.basis.specs.Bytes.{byte}
 use Rattle.values.specs.Packet.{leastSize}
 use Rattle.values.specs.Rate.{noRate}
-use Rattle.values.specs.Flags.{noFlags}
+use Rattle.values.specs.Code.{noFlags}
 use Rattle.times.specs.Time.{timeAbsent}
-use Rattle.services.specs.ServiceList.{listAbsent}
-use Rattle.basis.specs.Check.{Check, Verdict, answer, broken, check, clear, ifClear, sizeWhen, verdict, when, sizeCheck}
-use Rattle.cc_section.specs.CcData.{ccDataChecks, ccDataRead, ccDataSize}
-use Rattle.footer.specs.Footer.{closingChecks, closingRead}
-use Rattle.header.specs.Header.{flagsIn, headerChecks, headerRead, rateOf, sequenceIn}
-use Rattle.svc_section.specs.SvcInfo.{svcInfoChecks, svcInfoOf, svcInfoRead, svcInfoSize}
-use Rattle.time_section.specs.TimeCode.{timeCodeChecks, timeCodeOf, timeCodeRead}
-use Rattle.checked.specs.Packet.{captionLength, ccDataAt, checkedRead, checkedShown, closingAt, packetChecks, refusedChecked, svcInfoAt}
+use Rattle.basis.specs.Check.{Check, Verdict, answer, broken, check, clear, ifClear, sizeCheck, sizeWhen, verdict, when}
+use Rattle.basis.specs.Code.{sized, tested}
+use Rattle.cc_section.specs.CcData.{ccDataChecks, ccDataSize}
+use Rattle.cc_section.specs.Code.{ccDataTested}
+use Rattle.footer.specs.Footer.{closingChecks}
+use Rattle.footer.specs.Code.{closingRead}
+use Rattle.header.specs.Header.{flagsIn, headerChecks, rateOf, sequenceIn}
+use Rattle.header.specs.Code.{headerRead}
+use Rattle.svc_section.specs.SvcInfo.{svcInfoChecks, svcInfoSize}
+use Rattle.svc_section.specs.Code.{svcInfoTested}
+use Rattle.time_section.specs.TimeCode.{timeCodeChecks, timeCodeOf}
+use Rattle.time_section.specs.Code.{timeCodeRead}
+use Rattle.checked.specs.Packet.{captionLength, ccDataAt, closingAt, packetChecks, svcInfoAt}
+use Rattle.checked.specs.Code.{checkedRead, checkedShown, refusedChecked}
 use Rattle.checked.specs.declared.checked.Checked.{Checked}
 use Rattle.header.specs.declared.header.Header.{Header}
-use Rattle.svc_section.specs.declared.svc_info.SvcInfoSection.{SvcInfoSection}
 use Rattle.time_section.specs.declared.time_code.TimeCodeSection.{TimeCodeSection}
 use Rattle.basis.specs.declared.answer.Answer.{Answer}
+use Rattle.basis.specs.declared.tested.Tested.{Tested}
 
 -- what a verdict on a packet gives
 abbrev pub given : Verdict → ℕ → Checked → Checked
@@ -55,22 +61,19 @@ timeAsked p = timeCodeRead p (flagsIn p .«time_code») 7
 abbrev pub timeShown : List ℕ → TimeCodeSection
 timeShown p =
     record {
-      answer = done (sizeWhen (flagsIn p .«time_code») 5);
+      answer = done 0;
       «time_code» = timeCodeOf p (flagsIn p .«time_code») 7;
+      size = sizeWhen (flagsIn p .«time_code») 5;
     }
 
-abbrev pub captionsAsked : List ℕ → Answer
-captionsAsked p = ccDataRead p (flagsIn p .«cc_data») (ccDataAt p)
+abbrev pub captionsAsked : List ℕ → Tested
+captionsAsked p = ccDataTested p (flagsIn p .«cc_data») (ccDataAt p)
 
-abbrev pub servicesAsked : List ℕ → SvcInfoSection
-servicesAsked p = svcInfoRead p (flagsIn p) (svcInfoAt p)
+abbrev pub servicesAsked : List ℕ → Tested
+servicesAsked p = svcInfoTested p (flagsIn p) (svcInfoAt p)
 
-abbrev pub servicesShown : List ℕ → SvcInfoSection
-servicesShown p =
-    record {
-      answer = done (sizeWhen (flagsIn p .«svc_info») (svcInfoSize p (svcInfoAt p)));
-      «service_info» = svcInfoOf p (flagsIn p) (svcInfoAt p);
-    }
+abbrev pub servicesSize : List ℕ → ℕ
+servicesSize p = sizeWhen (flagsIn p .«svc_info») (svcInfoSize p (svcInfoAt p))
 
 abbrev pub closingAsked : List ℕ → Answer
 closingAsked p = closingRead p (sequenceIn p) (closingAt p)
@@ -110,15 +113,9 @@ module _ (p : List ℕ) where
   abbrev timed : Verdict → TimeCodeSection
   timed v =
       record {
-        answer = answer v (sizeWhen (flagsIn p .«time_code») 5);
+        answer = answer v 0;
         «time_code» = ifClear v (timeCodeOf p (flagsIn p .«time_code») 7) timeAbsent;
-      }
-
-  abbrev served : Verdict → SvcInfoSection
-  served v =
-      record {
-        answer = answer v (sizeWhen (flagsIn p .«svc_info») (svcInfoSize p (svcInfoAt p)));
-        «service_info» = ifClear v (svcInfoOf p (flagsIn p) (svcInfoAt p)) listAbsent;
+        size = ifClear v (sizeWhen (flagsIn p .«time_code») 5) 0;
       }
 
   -- the packet's verdict is theirs, in order
@@ -168,23 +165,23 @@ module _ (p : List ℕ) where
     unfolding timeCodeRead
     time-code-is = ap timed time-code-clear
 
-  module _ (cc-data-done : eqb (captionsAsked p .number) 0 ≡ true) where
+  module _ (cc-data-done : eqb (captionsAsked p .answer .number) 0 ≡ true) where
     cc-data-clear : ccData ≡ clear
-    unfolding ccDataRead
+    unfolding ccDataTested
     cc-data-clear = done-clear ccData _ cc-data-done
 
-    pub cc-data-is : captionsAsked p ≡ done (captionLength p)
-    unfolding ccDataRead
-    cc-data-is = ap (λ (v : Verdict). answer v (captionLength p)) cc-data-clear
+    pub cc-data-is : captionsAsked p ≡ sized (captionLength p)
+    unfolding ccDataTested
+    cc-data-is = ap (λ (v : Verdict). tested v (captionLength p)) cc-data-clear
 
   module _ (svc-info-done : eqb (servicesAsked p .answer .number) 0 ≡ true) where
     svc-info-clear : svcInfo ≡ clear
-    unfolding svcInfoRead
+    unfolding svcInfoTested
     svc-info-clear = done-clear svcInfo _ svc-info-done
 
-    pub svc-info-is : servicesAsked p ≡ servicesShown p
-    unfolding svcInfoRead
-    svc-info-is = ap served svc-info-clear
+    pub svc-info-is : servicesAsked p ≡ sized (servicesSize p)
+    unfolding svcInfoTested
+    svc-info-is = ap (λ (v : Verdict). tested v (servicesSize p)) svc-info-clear
 
   module _ (header-done : eqb (headerRead p .answer .number) 0 ≡ true)
       (time-code-done : eqb (timeAsked p .answer .number) 0 ≡ true) where
@@ -193,16 +190,16 @@ module _ (p : List ℕ) where
         behind-header header-done
         ∙ ap (λ (v : Verdict). andThen v (andThen ccData (andThen svcInfo closing))) (time-code-clear time-code-done)
 
-    pub cc-data-refused : eqb (captionsAsked p .number) 0 ≡ false → refusedChecked (captionsAsked p) ≡ checkedRead p
-    unfolding ccDataRead
+    pub cc-data-refused : eqb (captionsAsked p .answer .number) 0 ≡ false → refusedChecked (captionsAsked p .answer) ≡ checkedRead p
+    unfolding ccDataTested
     cc-data-refused h = stops ccData _ _ behind-time-code h
 
-    module _ (cc-data-done : eqb (captionsAsked p .number) 0 ≡ true) where
+    module _ (cc-data-done : eqb (captionsAsked p .answer .number) 0 ≡ true) where
       behind-cc-data : verdict (packetChecks p) ≡ andThen svcInfo closing
       behind-cc-data = behind-time-code ∙ ap (λ (v : Verdict). andThen v (andThen svcInfo closing)) (cc-data-clear cc-data-done)
 
       pub svc-info-refused : eqb (servicesAsked p .answer .number) 0 ≡ false → refusedChecked (servicesAsked p .answer) ≡ checkedRead p
-      unfolding svcInfoRead
+      unfolding svcInfoTested
       svc-info-refused h = stops svcInfo _ _ behind-cc-data h
 
       module _ (svc-info-done : eqb (servicesAsked p .answer .number) 0 ≡ true) where

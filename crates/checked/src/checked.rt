@@ -1,11 +1,11 @@
 // Rules 2 to 9, one after the other: whether a packet is accepted, and all that it holds but its service list.
 ghost use mathlib.Core.Path.{_≡_};
-ghost use Rattle.checked.specs.Packet.{checkedRead, refusedChecked};
+ghost use Rattle.checked.specs.Code.{checkedRead, refusedChecked};
 use basis::Answer;
 use cc_section::cc_data;
 use footer::closing;
 use header::Header;
-use svc_section::SvcInfoSection;
+use svc_section::svc_info;
 use time_section::TimeCodeSection;
 use times::MaybeTimeCode;
 use values::Flags;
@@ -54,18 +54,19 @@ impl Checked {
         if !time_code_answer.is_done() {
             return Self::refused(time_code_answer);
         }
-        let cc_data_at = 7 + time_code_answer.first;
-        let answer = cc_data(packet, flags.cc_data, cc_data_at as u8);
-        if !answer.is_done() {
-            return Self::refused(answer);
+        let cc_data_at = 7 + section.size;
+        let captions = cc_data(packet, flags.cc_data, cc_data_at as u8);
+        let captions_answer = captions.answer;
+        if !captions_answer.is_done() {
+            return Self::refused(captions_answer);
         }
-        let svc_info_at = cc_data_at + answer.first;
-        let svc_info = SvcInfoSection::parse(packet, flags, svc_info_at as u8);
-        let svc_info_answer = svc_info.answer;
-        if !svc_info_answer.is_done() {
-            return Self::refused(svc_info_answer);
+        let svc_info_at = cc_data_at + captions.size;
+        let services = svc_info(packet, flags, svc_info_at as u8);
+        let services_answer = services.answer;
+        if !services_answer.is_done() {
+            return Self::refused(services_answer);
         }
-        let closing_at = svc_info_at + svc_info_answer.first;
+        let closing_at = svc_info_at + services.size;
         let closing_answer = closing(packet, header.sequence, closing_at as u8);
         if !closing_answer.is_done() {
             return Self::refused(closing_answer);
@@ -73,7 +74,7 @@ impl Checked {
         let framerate = header.framerate;
         let time_code = section.time_code;
         Self {
-            answer,
+            answer: Answer::done(captions.size),
             framerate,
             time_code,
             sequence: header.sequence,

@@ -15,8 +15,9 @@ use Rattle.basis.specs.Bytes.{byte}
 use Rattle.basis.specs.Check.{verdict, clear}
 use Rattle.basis.specs.Mask.{Mask, flag, under, allSet, x80, x40, x3F}
 use Rattle.entries.specs.Entry.{entryChecks, entryOf, entryRead, serviceOf}
+use Rattle.entries.specs.Code.{sevenOf, sixOf, within}
 use Rattle.entries.specs.Service.{entry}
-use Rattle.entries.specs.Writing.{writable, kindByte, flagsByte, entryBytes, entryCheck, entryWritten, Written}
+use Rattle.entries.specs.Writing.{writable, kindByte, flagsByte, entryBytes, entryCheck, entryWritten, sevenBytes, Written}
 use Rattle.entries.proofs.EntryWrites.{first-bytes, room-done}
 use Rattle.entries.specs.declared.entry.ServiceEntry.{ServiceEntry}
 use Rattle.entries.specs.declared.service.DigitalServiceEntry.{DigitalServiceEntry}
@@ -30,19 +31,40 @@ number-low d h = leb-true 1 (d .service) (and-left _ _ h)
 pub number-high : (d : DigitalServiceEntry) → writable (Service d) ≡ true → d .service ≤ 63
 number-high d h = leb-true (d .service) 63 (and-right (leb 1 (d .service)) _ h)
 
+-- a service that can be written is within six bits, and within seven
+within-64 : (s : FieldOrService) → writable s ≡ true → within 64 s ≡ s
+within-64 (Field first) h = refl
+within-64 (Service d) h =
+    let high : d .service ≤ 63 = number-high d h in
+    let low : d .service % 64 ≡ d .service = omega arith in
+    rw low
+
+within-128 : (s : FieldOrService) → writable s ≡ true → within 128 s ≡ s
+within-128 (Field first) h = refl
+within-128 (Service d) h =
+    let high : d .service ≤ 63 = number-high d h in
+    let low : d .service % 128 ≡ d .service = omega arith in
+    rw low
+
+pub six-of : (e : ServiceEntry) → writable (e .service) ≡ true → sixOf e ≡ entryBytes e
+six-of e h = rw (within-64 (e .service) h)
+
+pub seven-of : (e : ServiceEntry) → writable (e .service) ≡ true → sevenOf e ≡ sevenBytes e
+seven-of e h = rw (within-128 (e .service) h, within-64 (e .service) h)
+
 -- a test of a mask, from the number under it
 pub all-set : (m : Mask) (b : ℕ) → under m b ≡ 2 ^ m .ones - 1 → allSet m b ≡ true
 all-set m b h = eq-eqb _ _ h
 
 -- byte 3 of a digital service: bits 80 and 40 are set, the low six are the number
 module _ (n : ℕ) (h : n ≤ 63) where
-  digital-80 : allSet x80 (0xC0 + n % 64) ≡ true
-  digital-80 = all-set x80 (0xC0 + n % 64) (omega arith)
+  digital-80 : allSet x80 (0xC0 + n) ≡ true
+  digital-80 = all-set x80 (0xC0 + n) (omega arith)
 
-  digital-40 : allSet x40 (0xC0 + n % 64) ≡ true
-  digital-40 = all-set x40 (0xC0 + n % 64) (omega arith)
+  digital-40 : allSet x40 (0xC0 + n) ≡ true
+  digital-40 = all-set x40 (0xC0 + n) (omega arith)
 
-  digital-number : under x3F (0xC0 + n % 64) ≡ n
+  digital-number : under x3F (0xC0 + n) ≡ n
   digital-number = omega arith
 
 -- byte 4 has all of 3F, and each flag in its bit

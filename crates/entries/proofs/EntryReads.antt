@@ -10,7 +10,8 @@ use borrow.Author.Tests.{eq-eqb, ne-eqb}
 use lib.Dec.{eqb}
 use Rattle.basis.specs.Answer.{InvalidFixedBits, InvalidServiceNumber, done, refused}
 use Rattle.basis.specs.Bytes.{byte}
-use Rattle.entries.specs.Entry.{kindCheck, serviceOf, entryOf, entryRead, refusedEntry}
+use Rattle.entries.specs.Entry.{kindCheck, serviceOf, entryOf, entryRead}
+use Rattle.entries.specs.Code.{refusedEntry}
 use Rattle.entries.specs.declared.entry.ServiceEntryRead.{ServiceEntryRead}
 use Rattle.entries.specs.declared.service.FieldOrService.the-variants.{Field, Service}
 

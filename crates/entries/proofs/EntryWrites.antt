@@ -10,9 +10,10 @@ use lib.ListN.{length, take}
 use Rattle.basis.proofs.Puts.{put-fits, take-over}
 use Rattle.basis.proofs.Verdicts.{andThen, refused-not-done, verdict-append}
 use Rattle.basis.specs.Answer.{BufferTooShort, NotWritable, done, refused}
-use Rattle.basis.specs.Bytes.{over, put}
-use Rattle.basis.specs.Check.{Check, Verdict, answer, broken, clear, verdict}
-use Rattle.entries.specs.Writing.{Written, writable, entryBytes, entryCheck, entryWritten, roomCheck, written}
+use Rattle.basis.specs.Bytes.{over}
+use Rattle.basis.specs.Code.{put}
+use Rattle.basis.specs.Check.{Check, Verdict, answer, broken, clear, roomCheck, verdict}
+use Rattle.entries.specs.Writing.{Written, writable, entryBytes, entryCheck, entryWritten, written}
 use Rattle.entries.specs.declared.entry.ServiceEntry.{ServiceEntry}
 use Rattle.basis.specs.declared.answer.Answer.{Answer}
 
@@ -35,14 +36,14 @@ refused-so (broken why) w k bytes buffer h = (refl, refl)
 -- a writer that tests the room last, behind checks of its values
 module _ (cs : List Check) (needed : ℕ) (bytes buffer : List ℕ) where
   abbrev pub roomLast : Written
-  roomLast = written (verdict (cs ++ roomCheck needed buffer ∷ [])) bytes buffer
+  roomLast = written (verdict (cs ++ roomCheck needed (length buffer) ∷ [])) bytes buffer
 
   room : Verdict
-  room = verdict (roomCheck needed buffer ∷ [])
+  room = verdict (roomCheck needed (length buffer) ∷ [])
 
-  in-order : verdict (cs ++ roomCheck needed buffer ∷ []) ≡ andThen (verdict cs) room
+  in-order : verdict (cs ++ roomCheck needed (length buffer) ∷ []) ≡ andThen (verdict cs) room
   unfolding room
-  in-order = verdict-append cs (roomCheck needed buffer ∷ [])
+  in-order = verdict-append cs (roomCheck needed (length buffer) ∷ [])
 
   pub values-refused : (k : ℕ) → eqb (answer (verdict cs) k .number) 0 ≡ false → Leaves roomLast (answer (verdict cs) k) buffer
   values-refused k h = rw in-order (refused-so (verdict cs) room k bytes buffer h)

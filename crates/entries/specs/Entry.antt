@@ -12,7 +12,6 @@ use Rattle.entries.specs.declared.entry.ServiceEntry.{ServiceEntry}
 use Rattle.entries.specs.declared.entry.ServiceEntryRead.{ServiceEntryRead}
 use Rattle.entries.specs.declared.service.FieldOrService.{FieldOrService}
 use Rattle.entries.specs.declared.service.FieldOrService.the-variants.{Field, Service}
-use Rattle.basis.specs.declared.answer.Answer.{Answer}
 
 -- E2: with 80, byte 3 is digital and its low six bits are a number other than 0; without, it is a field and has 3E
 abbrev pub kindCheck : ℕ → Check
@@ -46,7 +45,3 @@ unfoldable pub entryRead : List ℕ → ServiceEntryRead
 entryRead e =
     let v = verdict (entryChecks e) in
     record { answer = answer v 0; entry = ifClear v (entryOf e) filler }
-
--- a refusal shows the filler
-abbrev pub refusedEntry : Answer → ServiceEntryRead
-refusedEntry a = record { answer = a; entry = filler }

@@ -1,3 +1,4 @@
 pub mod Service
 pub mod Entry
 pub mod Writing
+pub mod Code

@@ -1,12 +1,12 @@
 -- Writing an entry.
 use mathlib.Core.Bool.{Bool, true, cond, _&&_}
 use mathlib.Core.List.{List, [], _∷_}
-use Prim.Native.Nat.{ℕ, _+_, _%_}
+use Prim.Native.Nat.{ℕ, _+_}
 use lib.Dec.{leb}
 use lib.ListN.{length}
-use Rattle.basis.specs.Answer.{BufferTooShort, NotWritable}
+use Rattle.basis.specs.Answer.{NotWritable}
 use Rattle.basis.specs.Bytes.{byte, over}
-use Rattle.basis.specs.Check.{Check, Verdict, check, verdict, answer, ifClear}
+use Rattle.basis.specs.Check.{Check, Verdict, check, roomCheck, verdict, answer, ifClear}
 use Rattle.basis.specs.Mask.{flag}
 use Rattle.entries.specs.declared.entry.ServiceEntry.{ServiceEntry}
 use Rattle.entries.specs.declared.service.FieldOrService.{FieldOrService}
@@ -22,22 +22,25 @@ pub record Written : Type 0 where
 abbrev pub written : Verdict → List ℕ → List ℕ → Written
 written v bytes buffer = record { answer = answer v (length bytes); buffer = ifClear v (over 0 bytes buffer) buffer }
 
+-- how many bytes an entry has
+abbrev pub entryLength : ℕ
+entryLength = 6
+
 -- a digital number is 1 to 63; both fields can be written
+abbrev pub mostNumber : ℕ
+mostNumber = 63
+
 abbrev pub writable : FieldOrService → Bool
 writable (Field first) = true
-writable (Service digital) = leb 1 (digital .service) && leb (digital .service) 63
+writable (Service digital) = leb 1 (digital .service) && leb (digital .service) mostNumber
 
 abbrev pub entryCheck : ServiceEntry → Check
 entryCheck e = check (writable (e .service)) NotWritable
 
-abbrev pub roomCheck : ℕ → List ℕ → Check
-roomCheck needed buffer = check (leb needed (length buffer)) (BufferTooShort needed (length buffer))
-
--- bytes 3 and 4: C0 + number and the two flags above 3F; 7E and 3F for field 1, 7F and 3F for field 2. A number that can
--- be written is below 64, so that the remainder, which keeps any other in its byte, is the number
+-- bytes 3 and 4: C0 + number and the two flags above 3F; 7E and 3F for field 1, 7F and 3F for field 2
 abbrev pub kindByte : FieldOrService → ℕ
 kindByte (Field first) = cond first 0x7E 0x7F
-kindByte (Service digital) = 0xC0 + digital .service % 64
+kindByte (Service digital) = 0xC0 + digital .service
 
 abbrev pub flagsByte : FieldOrService → ℕ
 flagsByte (Field first) = 0x3F
@@ -56,12 +59,12 @@ entryBytes e =
 
 -- an entry alone: its value, then six bytes of room
 unfoldable pub entryWritten : ServiceEntry → List ℕ → Written
-entryWritten e buffer = written (verdict (entryCheck e ∷ roomCheck 6 buffer ∷ [])) (entryBytes e) buffer
+entryWritten e buffer = written (verdict (entryCheck e ∷ roomCheck entryLength (length buffer) ∷ [])) (entryBytes e) buffer
 
--- an entry's header byte: 80 + number, with a remainder as above; 80 for field 1, 81 for field 2
+-- an entry's header byte: 80 + number; 80 for field 1, 81 for field 2
 abbrev pub headerByte : FieldOrService → ℕ
 headerByte (Field first) = cond first 0x80 0x81
-headerByte (Service digital) = 0x80 + digital .service % 128
+headerByte (Service digital) = 0x80 + digital .service
 
 -- the seven bytes of an entry in a section
 abbrev pub sevenBytes : ServiceEntry → List ℕ

@@ -1,6 +1,7 @@
 // Rules E1 to E4: the six bytes of an entry, read.
 ghost use mathlib.Core.Path.{_≡_};
 ghost use Rattle.entries.specs.Entry as Entry;
+ghost use Rattle.entries.specs.Code as Code;
 ghost use Rattle.entries.specs.Service as Service;
 use crate::service::DigitalServiceEntry;
 use crate::service::FieldOrService;
@@ -19,8 +20,8 @@ pub struct ServiceEntryRead {
 
 impl ServiceEntryRead {
     // A refusal shows the filler.
-    pub fn refused(answer: Answer) -> Self
-        ensures { λ r. ⌜ r ≡ Entry.refusedEntry answer ⌝ }
+    fn refused(answer: Answer) -> Self
+        ensures { λ r. ⌜ r ≡ Code.refusedEntry answer ⌝ }
     {
         Self {
             answer,
@@ -36,6 +37,13 @@ impl ServiceEntry {
         service: FieldOrService::Field(true),
     };
 
+    // Nothing calls this: its contract holds the constant above to the rules.
+    fn held() -> Self
+        ensures { λ r. ⌜ r ≡ Service.filler ⌝ }
+    {
+        Self::FILLER
+    }
+
     // Both values as they are.
     pub fn new(language: [u8; 3], service: FieldOrService) -> Self
         ensures { λ r. ⌜ r ≡ Service.entry language service ⌝ }
@@ -43,8 +51,8 @@ impl ServiceEntry {
         Self { language, service }
     }
 
-    // What the six bytes hold, whatever their fixed bits are.
-    pub fn untested(bytes: [u8; 6]) -> Self
+    // What the six bytes hold. Only what `parse` has tested comes here.
+    fn of_bytes(bytes: [u8; 6]) -> Self
         ensures { λ r. ⌜ r ≡ Entry.entryOf bytes ⌝ }
     {
         Self {
@@ -84,7 +92,7 @@ impl ServiceEntry {
         }
         ServiceEntryRead {
             answer: Answer::done(0),
-            entry: Self::untested(bytes),
+            entry: Self::of_bytes(bytes),
         }
     }
 }

@@ -1,5 +1,7 @@
 // Writing: an entry's bytes.
 ghost use mathlib.Core.Path.{_≡_};
+ghost use mathlib.Core.List.{_∷_, []};
+ghost use Rattle.entries.specs.Code.{sevenOf, sixOf, within};
 ghost use Rattle.entries.specs.Writing as Writing;
 use crate::entry::ServiceEntry;
 use crate::service::FieldOrService;
@@ -13,6 +15,13 @@ impl ServiceEntry {
 
     // The largest digital number; the least is 1.
     pub const MAX_SERVICE: u8 = 63;
+
+    // Nothing calls this: its contract holds the two constants above to the rules.
+    fn held_limits() -> [usize; 2]
+        ensures { λ r. ⌜ r ≡ Writing.entryLength ∷ Writing.mostNumber ∷ [] ⌝ }
+    {
+        [Self::BYTE_LEN, Self::MAX_SERVICE as usize]
+    }
 
     // Writes the entry at the start of the lent bytes.
     pub fn write_into(self, out: &mut [u8]) -> Answer
@@ -45,7 +54,7 @@ impl ServiceEntry {
     }
 
     fn bytes(self) -> [u8; 6]
-        ensures { λ r. ⌜ r ≡ Writing.entryBytes self ⌝ }
+        ensures { λ r. ⌜ r ≡ sixOf self ⌝ }
     {
         let language = self.language;
         let service = self.service;
@@ -59,9 +68,9 @@ impl ServiceEntry {
         ]
     }
 
-    // The entry behind its header byte, as a section has it, whatever the number is.
+    // The entry behind its header byte, as a section has it. Of a number over 63 it holds the low bits.
     pub fn section_bytes(self) -> [u8; 7]
-        ensures { λ r. ⌜ r ≡ Writing.sevenBytes self ⌝ }
+        ensures { λ r. ⌜ r ≡ sevenOf self ⌝ }
     {
         let service = self.service;
         let bytes = self.bytes();
@@ -77,9 +86,9 @@ impl ServiceEntry {
     }
 }
 
-// Byte 3. A number over 63 loses its upper bits, as in the Rust.
+// Byte 3. A number that can be written is below 64.
 fn kind_byte(service: FieldOrService) -> u8
-    ensures { λ r. ⌜ r ≡ Writing.kindByte service ⌝ }
+    ensures { λ r. ⌜ r ≡ Writing.kindByte (within 64 service) ⌝ }
 {
     match service {
         FieldOrService::Field(first) => { if first { 0x7E } else { 0x7F } }
@@ -89,7 +98,7 @@ fn kind_byte(service: FieldOrService) -> u8
 
 // Byte 4: the two flags above 3F.
 fn flags_byte(service: FieldOrService) -> u8
-    ensures { λ r. ⌜ r ≡ Writing.flagsByte service ⌝ }
+    ensures { λ r. ⌜ r ≡ Writing.flagsByte (within 64 service) ⌝ }
 {
     match service {
         FieldOrService::Field(_) => 0x3F,
@@ -101,7 +110,7 @@ fn flags_byte(service: FieldOrService) -> u8
 
 // The byte in front of an entry in a section. Field 2 gets 81, as in the Rust, which no reader takes.
 fn header_byte(service: FieldOrService) -> u8
-    ensures { λ r. ⌜ r ≡ Writing.headerByte service ⌝ }
+    ensures { λ r. ⌜ r ≡ Writing.headerByte (within 128 service) ⌝ }
 {
     match service {
         FieldOrService::Field(first) => { if first { 0x80 } else { 0x81 } }

@@ -11,7 +11,8 @@ use Rattle.basis.specs.Answer.{ChecksumFailed, LengthMismatch, SequenceCountMis
 use Rattle.basis.specs.Bytes.{byte}
 use Rattle.basis.specs.Check.{Verdict, answer, verdict}
 use Rattle.values.specs.Sequence.{sequenceOf}
-use Rattle.footer.specs.Footer.{checksumOf, closingChecks, closingRead, footerChecks, footerFrom, footerRead, futureChecks, futureChecksAt, futureLength}
+use Rattle.footer.specs.Footer.{checksumOf, closingChecks, footerChecks, footerFrom, futureChecks, futureChecksAt, futureLength}
+use Rattle.footer.specs.Code.{closingRead, footerRead}
 
 -- rule 9
 module _ (p : List ℕ) (sequence i : ℕ) where

@@ -6,11 +6,10 @@ use lib.Dec.{eqb, leb}
 use lib.ListN.{length, take}
 use Rattle.basis.specs.Answer.{WrongMagic, SequenceCountMismatch, ChecksumFailed}
 use Rattle.basis.specs.Bytes.{byte}
-use Rattle.basis.specs.Check.{Check, check, verdict, answer, sizeCheck}
+use Rattle.basis.specs.Check.{Check, check, sizeCheck}
 use Rattle.values.specs.Checksum.{total, negative}
 use Rattle.values.specs.Packet.{footerId}
 use Rattle.values.specs.Sequence.{sequenceOf}
-use Rattle.basis.specs.declared.answer.Answer.{Answer}
 
 -- L, the byte behind a future section's id
 abbrev pub futureLength : List ℕ → ℕ → ℕ
@@ -47,13 +46,7 @@ footerChecks p sequence i =
     ∷ check (eqb (byte p (i + 3)) (checksumOf p)) ChecksumFailed
     ∷ []
 
-unfoldable pub footerRead : List ℕ → ℕ → ℕ → Answer
-footerRead p sequence i = answer (verdict (footerChecks p sequence i)) 0
-
 -- rules 8 and 9: n is at least i+2; the future sections; the footer
 unfoldable pub closingChecks : List ℕ → ℕ → ℕ → List Check
 closingChecks p sequence i =
     sizeCheck p (i + 2) ∷ futureChecks (length p) p i ++ footerChecks p sequence (footerFrom (length p) p i)
-
-unfoldable pub closingRead : List ℕ → ℕ → ℕ → Answer
-closingRead p sequence i = answer (verdict (closingChecks p sequence i)) 0

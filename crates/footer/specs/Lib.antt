@@ -1,1 +1,2 @@
 pub mod Footer
+pub mod Code

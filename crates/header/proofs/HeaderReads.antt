@@ -8,7 +8,8 @@ use borrow.Author.Tests.{eq-eqb, ne-eqb, le-leb, lt-leb}
 use lib.ListN.{length}
 use Rattle.basis.specs.Answer.{LengthMismatch, WrongMagic, UnknownFramerate, done, refused}
 use Rattle.basis.specs.Bytes.{byte}
-use Rattle.header.specs.Header.{flagsIn, headerRead, rateOf, refusedHeader, sequenceIn}
+use Rattle.header.specs.Header.{flagsIn, rateOf, sequenceIn}
+use Rattle.header.specs.Code.{headerRead, refusedHeader}
 use Rattle.header.specs.declared.header.Header.{Header}
 
 module _ (p : List ℕ) where

@@ -6,14 +6,12 @@ use lib.Dec.{eqb}
 use lib.ListN.{length}
 use Rattle.basis.specs.Answer.{LengthMismatch, WrongMagic, UnknownFramerate}
 use Rattle.basis.specs.Bytes.{byte}
-use Rattle.basis.specs.Check.{Check, check, verdict, answer, ifClear, sizeCheck}
-use Rattle.values.specs.Flags.{flagsOf, noFlags}
+use Rattle.basis.specs.Check.{Check, check, sizeCheck}
+use Rattle.values.specs.Flags.{flagsOf}
 use Rattle.basis.specs.Mask.{under, xF0}
 use Rattle.values.specs.Packet.{leastSize}
-use Rattle.values.specs.Rate.{fromId, noRate}
+use Rattle.values.specs.Rate.{fromId}
 use Rattle.values.specs.Sequence.{sequenceOf}
-use Rattle.header.specs.declared.header.Header.{Header}
-use Rattle.basis.specs.declared.answer.Answer.{Answer}
 use Rattle.values.specs.declared.flags.Flags.{Flags}
 use Rattle.values.specs.declared.framerate.MaybeFramerate.{MaybeFramerate}
 
@@ -36,18 +34,3 @@ headerChecks p =
     ∷ check (eqb (byte p 2) (length p)) (LengthMismatch (byte p 2) (length p))
     ∷ check (rateOf p .present) UnknownFramerate
     ∷ []
-
--- what reading the header gives
-unfoldable pub headerRead : List ℕ → Header
-headerRead p =
-    let v = verdict (headerChecks p) in
-    record {
-      answer = answer v 0;
-      framerate = ifClear v (rateOf p) noRate;
-      flags = ifClear v (flagsIn p) noFlags;
-      sequence = ifClear v (sequenceIn p) 0;
-    }
-
--- a refusal shows nothing
-abbrev pub refusedHeader : Answer → Header
-refusedHeader a = record { answer = a; framerate = noRate; flags = noFlags; sequence = 0 }

@@ -1,6 +1,6 @@
 // Rules 2 to 4: the first seven bytes.
 ghost use mathlib.Core.Path.{_≡_};
-ghost use Rattle.header.specs.Header.{headerRead, refusedHeader};
+ghost use Rattle.header.specs.Code.{headerRead, refusedHeader};
 use basis::Answer;
 use values::Flags;
 use values::Framerate;

@@ -10,16 +10,19 @@ use borrow.Author.Tests.{eq-eqb, ne-eqb, le-leb, lt-leb, leb-true, leb-false, eq
 use lib.Dec.{eqb, leb}
 use Rattle.basis.proofs.Bools.{and-left, and-right}
 use Rattle.values.proofs.Rates.{no-row}
-use Rattle.basis.proofs.Verdicts.{and-first, and-second, andThen, done-clear, done-shows, kept-first, kept-rest, refused-shows, refused-stays, verdict-append}
+use Rattle.basis.proofs.Verdicts.{and-first, and-second, andThen, done-clear, done-value, kept-first, kept-rest, refused-shows, refused-stays, verdict-append}
 use Rattle.basis.specs.Answer.{UnknownFramerate, WrongCaptionRun, done, refused}
 use Rattle.basis.specs.Check.{Check, Verdict, answer, check, clear, sizeWhen, verdict, when}
 use Rattle.values.specs.Rate.{fromId, known, noRate}
 use Rattle.times.specs.Time.{timeWriteChecks, timeWritten}
 use Rattle.services.proofs.SectionWrites.{value-length}
-use Rattle.svc_entries.specs.Entries.{sectionLength}
 use Rattle.services.specs.ServiceList.{byteLen, countCheck}
-use Rattle.services.specs.Writing.{counted, entryWriteChecks, valueAnswer, valueChecks}
-use Rattle.packet_checks.specs.Checks.{fullTriplets, packetAsked, packetChecks, packetLength, servicesAsked, svcInfoChecks, svcInfoSize, timeAsked, timeCodeChecks, timeCodeSize}
+use Rattle.svc_entries.specs.Entries.{sectionLength}
+use Rattle.services.specs.Writing.{counted, entryWriteChecks, valueChecks}
+use Rattle.services.specs.Code.{valueAnswer}
+use Rattle.packet_checks.specs.Checks.{fullTriplets, packetChecks, packetLength, svcInfoChecks, svcInfoSize, timeCodeChecks, timeCodeSize}
+use Rattle.packet_checks.specs.Code.{packetTested, servicesTested, timeTested, withLength, withoutLength}
+use Rattle.packet_checks.specs.declared.checks.WriteTested.{WriteTested}
 use Rattle.services.specs.declared.list.MaybeServiceInfo.{MaybeServiceInfo}
 use Rattle.services.specs.declared.list.ServiceInfo.{ServiceInfo}
 use Rattle.basis.specs.declared.answer.Answer.{Answer}
@@ -27,54 +30,58 @@ use Rattle.values.specs.declared.framerate.Framerate.{Framerate}
 use Rattle.values.specs.declared.framerate.MaybeFramerate.{MaybeFramerate}
 use Rattle.times.specs.declared.time_code.MaybeTimeCode.{MaybeTimeCode}
 
+-- an answer and a length
+abbrev measured : Answer → ℕ → WriteTested
+measured a length = record { answer = a; length = length }
+
 -- a part that may be held: its own checks decide where it is, and its size goes with 0
 module _ (present : Bool) (cs : List Check) (size : ℕ) where
-  abbrev part : Answer
-  part = answer (verdict (when present cs)) (sizeWhen present size)
+  abbrev part : WriteTested
+  part = withLength (verdict (when present cs)) (sizeWhen present size)
 
-  not-held : present ≡ false → done 0 ≡ part
+  not-held : present ≡ false → withoutLength (done 0) ≡ part
   not-held a = simp a
 
-  module _ (held : present ≡ true) (k : ℕ) where
-    held-refused : eqb (answer (verdict cs) k .number) 0 ≡ false → answer (verdict cs) k ≡ part
-    held-refused h = simp held (refused-shows (λ (a : Answer) (n : ℕ). a) (verdict cs) k size 0 0 h)
+  module _ (held : present ≡ true) where
+    held-refused : eqb (answer (verdict cs) 0 .number) 0 ≡ false → withoutLength (answer (verdict cs) 0) ≡ part
+    held-refused h = simp held (refused-shows measured (verdict cs) 0 0 size 0 h)
 
-    held-done : eqb (answer (verdict cs) k .number) 0 ≡ true → done size ≡ part
-    held-done h = simp held (done-shows (λ (a : Answer) (n : ℕ). a) (verdict cs) k size 0 0 h)
+    held-done : eqb (answer (verdict cs) 0 .number) 0 ≡ true → measured (answer (verdict cs) 0) size ≡ part
+    held-done h = simp held (ap (measured (answer (verdict cs) 0)) (sym (done-value (verdict cs) 0 size 0 h)))
 
 -- so time code and services
 module _ (time : MaybeTimeCode) where
-  pub no-time : time .present ≡ false → done 0 ≡ timeAsked time
+  pub no-time : time .present ≡ false → withoutLength (done 0) ≡ timeTested time
+  unfolding timeTested
   no-time a = not-held (time .present) (timeWriteChecks (time .«time_code»)) 5 a
 
   module _ (held : time .present ≡ true) where
-    pub bad-time : eqb (timeWritten (time .«time_code») .answer .number) 0 ≡ false → timeWritten (time .«time_code») .answer ≡ timeAsked time
-    unfolding timeWritten
-    bad-time h = held-refused (time .present) (timeWriteChecks (time .«time_code»)) 5 held 0 h
+    pub bad-time : eqb (timeWritten (time .«time_code») .answer .number) 0 ≡ false → withoutLength (timeWritten (time .«time_code») .answer) ≡ timeTested time
+    unfolding timeWritten timeTested
+    bad-time h = held-refused (time .present) (timeWriteChecks (time .«time_code»)) 5 held h
 
-    pub good-time : eqb (timeWritten (time .«time_code») .answer .number) 0 ≡ true → done 5 ≡ timeAsked time
-    unfolding timeWritten
-    good-time h = held-done (time .present) (timeWriteChecks (time .«time_code»)) 5 held 0 h
+    pub good-time : eqb (timeWritten (time .«time_code») .answer .number) 0 ≡ true → measured (timeWritten (time .«time_code») .answer) 5 ≡ timeTested time
+    unfolding timeWritten timeTested
+    good-time h = held-done (time .present) (timeWriteChecks (time .«time_code»)) 5 held h
 
 module _ (services : MaybeServiceInfo) where
   abbrev list : ServiceInfo
   list = services .«service_info»
 
-  pub no-list : services .present ≡ false → done 0 ≡ servicesAsked services
+  pub no-list : services .present ≡ false → withoutLength (done 0) ≡ servicesTested services
+  unfolding servicesTested
   no-list a = not-held (services .present) (valueChecks list) (sectionLength (list .count)) a
 
   module _ (held : services .present ≡ true) where
-    pub bad-list : eqb (valueAnswer list .number) 0 ≡ false → valueAnswer list ≡ servicesAsked services
-    unfolding valueAnswer
-    bad-list h = held-refused (services .present) (valueChecks list) (sectionLength (list .count)) held 0 h
+    pub bad-list : eqb (valueAnswer list .number) 0 ≡ false → withoutLength (valueAnswer list) ≡ servicesTested services
+    unfolding valueAnswer servicesTested
+    bad-list h = held-refused (services .present) (valueChecks list) (sectionLength (list .count)) held h
 
-    pub good-list : eqb (valueAnswer list .number) 0 ≡ true → byteLen list ≡ servicesAsked services
-    unfolding valueAnswer
-    good-list h = value-length list h ∙ held-done (services .present) (valueChecks list) (sectionLength (list .count)) held 0 h
-
--- where an answer is done, it is the size
-done-is : (v : Verdict) (size : ℕ) → eqb (answer v size .number) 0 ≡ true → answer v size ≡ done size
-done-is v size h = ap (λ (u : Verdict). answer u size) (done-clear v size h)
+    pub good-list : eqb (valueAnswer list .number) 0 ≡ true → measured (valueAnswer list) (byteLen list .first) ≡ servicesTested services
+    unfolding valueAnswer servicesTested
+    good-list h =
+        ap (λ (a : Answer). measured (valueAnswer list) (a .first)) (value-length list h)
+        ∙ held-done (services .present) (valueChecks list) (sectionLength (list .count)) held h
 
 -- a held list that can be written counts up to 15, so that its section has 107 bytes at most
 services-most : (present : Bool) (l : ServiceInfo) → verdict (when present (valueChecks l)) ≡ clear → sizeWhen present (2 + 7 * l .count) ≤ 107
@@ -91,22 +98,22 @@ svc-info-most services h = services-most (services .present) (services .«servic
 time-code-most : (time : MaybeTimeCode) → timeCodeSize time ≤ 5
 time-code-most time = time-most (time .present)
 
--- the two sizes that go with 0, as they are added up
-pub record Sizes (t s : Answer) (time : MaybeTimeCode) (services : MaybeServiceInfo) : Type 0 where
-  pub time-is : t .first ≡ timeCodeSize time
-  pub services-is : s .first ≡ svcInfoSize services
+-- the two lengths beside 0, as they are added up
+pub record Sizes (t s : WriteTested) (time : MaybeTimeCode) (services : MaybeServiceInfo) : Type 0 where
+  pub time-is : t .length ≡ timeCodeSize time
+  pub services-is : s .length ≡ svcInfoSize services
   pub time-few : timeCodeSize time ≤ 5
   pub services-few : svcInfoSize services ≤ 107
 
-pub sizes : (t s : Answer) (time : MaybeTimeCode) (services : MaybeServiceInfo) → t ≡ timeAsked time → s ≡ servicesAsked services
-    → eqb (t .number) 0 ≡ true → eqb (s .number) 0 ≡ true → Sizes t s time services
+pub sizes : (t s : WriteTested) (time : MaybeTimeCode) (services : MaybeServiceInfo) → t ≡ timeTested time → s ≡ servicesTested services
+    → eqb (t .answer .number) 0 ≡ true → eqb (s .answer .number) 0 ≡ true → Sizes t s time services
+unfolding timeTested servicesTested
 sizes t s time services te se timed served =
-    let right = done-clear (verdict (svcInfoChecks services)) (svcInfoSize services) (rw se at served) in
     record {
-      time-is = ap (λ (a : Answer). a .first) (te ∙ done-is (verdict (timeCodeChecks time)) (timeCodeSize time) (rw te at timed));
-      services-is = ap (λ (a : Answer). a .first) (se ∙ done-is (verdict (svcInfoChecks services)) (svcInfoSize services) (rw se at served));
+      time-is = ap (λ (a : WriteTested). a .length) te ∙ done-value (verdict (timeCodeChecks time)) 0 (timeCodeSize time) 0 (rw te at timed);
+      services-is = ap (λ (a : WriteTested). a .length) se ∙ done-value (verdict (svcInfoChecks services)) 0 (svcInfoSize services) 0 (rw se at served);
       time-few = time-code-most time;
-      services-few = svc-info-most services right;
+      services-few = svc-info-most services (done-clear (verdict (svcInfoChecks services)) 0 (rw se at served));
     }
 
 above-eight : (id : ℕ) → 8 < id → noRate ≡ fromId id
@@ -122,15 +129,18 @@ pub known-id : (rate : Framerate) → known rate ≡ true → rate .id ≤ 8
 known-id rate h = named-id (rate .id) (leb (rate .id) 8) refl (and-left _ _ h)
 
 module _ (rate : Framerate) (time : MaybeTimeCode) (services : MaybeServiceInfo) (run : ℕ) where
-  pub other-rate : known rate ≡ false → refused UnknownFramerate ≡ packetAsked rate time services run
+  pub other-rate : known rate ≡ false → withoutLength (refused UnknownFramerate) ≡ packetTested rate time services run
+  unfolding packetTested
   other-rate a = simp a
 
   module _ (rated : known rate ≡ true) where
-    pub run-long : 93 < run → refused WrongCaptionRun ≡ packetAsked rate time services run
+    pub run-long : 93 < run → withoutLength (refused WrongCaptionRun) ≡ packetTested rate time services run
+    unfolding packetTested
     run-long a = simp (rated, lt-leb _ _ a)
 
     module _ (short : run ≤ 93) where
-      pub run-cut : (run % 3 ≡ 0 → ⊥) → refused WrongCaptionRun ≡ packetAsked rate time services run
+      pub run-cut : (run % 3 ≡ 0 → ⊥) → withoutLength (refused WrongCaptionRun) ≡ packetTested rate time services run
+      unfolding packetTested
       run-cut a = simp (rated, le-leb _ _ short, ne-eqb _ _ a)
 
       module _ (whole : run % 3 ≡ 0) where
@@ -140,30 +150,36 @@ module _ (rate : Framerate) (time : MaybeTimeCode) (services : MaybeServiceInfo)
         as-parts : verdict (packetChecks rate time services run) ≡ behind
         as-parts = simp (rated, le-leb _ _ short, eq-eqb _ _ whole) (verdict-append (timeCodeChecks time) (svcInfoChecks services))
 
-        pub time-refused : eqb (timeAsked time .number) 0 ≡ false → timeAsked time ≡ packetAsked rate time services run
+        pub time-refused : eqb (timeTested time .answer .number) 0 ≡ false → withoutLength (timeTested time .answer) ≡ packetTested rate time services run
+        unfolding packetTested timeTested
         time-refused h =
             let v : Verdict = verdict (timeCodeChecks time) in
-            refused-shows (λ (a : Answer) (n : ℕ). a) v _ (packetLength time services run) 0 0 h
-            ∙ ap (λ (u : Verdict). answer u (packetLength time services run)) (sym (as-parts ∙ refused-stays v _ _ h))
+            refused-shows measured v 0 0 (packetLength time services run) 0 h
+            ∙ ap (λ (u : Verdict). withLength u (packetLength time services run)) (sym (as-parts ∙ refused-stays v _ _ h))
 
-        module _ (timed : eqb (timeAsked time .number) 0 ≡ true) where
+        module _ (timed : eqb (timeTested time .answer .number) 0 ≡ true) where
           behind-time : verdict (packetChecks rate time services run) ≡ verdict (svcInfoChecks services)
-          behind-time = as-parts ∙ ap (λ (v : Verdict). andThen v (verdict (svcInfoChecks services))) (done-clear (verdict (timeCodeChecks time)) (timeCodeSize time) timed)
+          unfolding timeTested
+          behind-time = as-parts ∙ ap (λ (v : Verdict). andThen v (verdict (svcInfoChecks services))) (done-clear (verdict (timeCodeChecks time)) 0 timed)
 
-          pub services-refused : eqb (servicesAsked services .number) 0 ≡ false → servicesAsked services ≡ packetAsked rate time services run
+          pub services-refused : eqb (servicesTested services .answer .number) 0 ≡ false → withoutLength (servicesTested services .answer) ≡ packetTested rate time services run
+          unfolding packetTested servicesTested
           services-refused h =
-              refused-shows (λ (a : Answer) (n : ℕ). a) (verdict (svcInfoChecks services)) _ (packetLength time services run) 0 0 h
-              ∙ ap (λ (u : Verdict). answer u (packetLength time services run)) (sym behind-time)
+              refused-shows measured (verdict (svcInfoChecks services)) 0 0 (packetLength time services run) 0 h
+              ∙ ap (λ (u : Verdict). withLength u (packetLength time services run)) (sym behind-time)
 
-          pub all-right : eqb (servicesAsked services .number) 0 ≡ true → done (packetLength time services run) ≡ packetAsked rate time services run
-          all-right h = ap (λ (u : Verdict). answer u (packetLength time services run)) (sym (behind-time ∙ done-clear _ _ h))
+          pub all-right : eqb (servicesTested services .answer .number) 0 ≡ true → measured (done 0) (packetLength time services run) ≡ packetTested rate time services run
+          unfolding packetTested servicesTested
+          all-right h = ap (λ (u : Verdict). withLength u (packetLength time services run)) (sym (behind-time ∙ done-clear _ _ h))
 
--- an answer 0 is a clear verdict, with the packet's length
-pub packet-asked : (rate : Framerate) (time : MaybeTimeCode) (services : MaybeServiceInfo) (run : ℕ) (a : Answer) → a ≡ packetAsked rate time services run → eqb (a .number) 0 ≡ true
-    → (verdict (packetChecks rate time services run) ≡ clear) × (a ≡ done (packetLength time services run))
-packet-asked rate time services run a e h =
-    let v : Verdict = verdict (packetChecks rate time services run) in
-    (done-clear v (packetLength time services run) (rw e at h), e ∙ done-is v (packetLength time services run) (rw e at h))
+-- an answer 0 is a clear verdict, with the packet's length beside it
+module _ (rate : Framerate) (time : MaybeTimeCode) (services : MaybeServiceInfo) (run : ℕ) where
+  pub packet-right : eqb (packetTested rate time services run .answer .number) 0 ≡ true
+      → (verdict (packetChecks rate time services run) ≡ clear) × (packetTested rate time services run .length ≡ packetLength time services run)
+  unfolding packetTested
+  packet-right h =
+      let v : Verdict = verdict (packetChecks rate time services run) in
+      (done-clear v 0 h, done-value v 0 (packetLength time services run) 0 h)
 
 -- what holds of a packet that can be written
 pub record Accepted (rate : Framerate) (time : MaybeTimeCode) (services : MaybeServiceInfo) (run : ℕ) : Type 0 where

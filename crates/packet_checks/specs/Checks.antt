@@ -4,12 +4,11 @@ use mathlib.Core.List.{List, _∷_, _++_}
 use Prim.Native.Nat.{ℕ, _+_, _%_}
 use lib.Dec.{eqb, leb}
 use Rattle.basis.specs.Answer.{UnknownFramerate, WrongCaptionRun}
-use Rattle.basis.specs.Check.{Check, check, when, sizeWhen, verdict, answer}
+use Rattle.basis.specs.Check.{Check, check, when, sizeWhen}
 use Rattle.values.specs.Rate.{known}
 use Rattle.times.specs.Time.{timeSize, timeWriteChecks}
 use Rattle.svc_entries.specs.Entries.{sectionLength}
 use Rattle.services.specs.Writing.{valueChecks}
-use Rattle.basis.specs.declared.answer.Answer.{Answer}
 use Rattle.services.specs.declared.list.MaybeServiceInfo.{MaybeServiceInfo}
 use Rattle.values.specs.declared.framerate.Framerate.{Framerate}
 use Rattle.times.specs.declared.time_code.MaybeTimeCode.{MaybeTimeCode}
@@ -42,13 +41,3 @@ svcInfoSize services = sizeWhen (services .present) (sectionLength (services .«
 
 abbrev pub packetLength : MaybeTimeCode → MaybeServiceInfo → ℕ → ℕ
 packetLength time services run = 7 + timeCodeSize time + (2 + run) + svcInfoSize services + 4
-
--- what asking gives: of the time code, of the list, of the whole packet; with 0 goes the size
-abbrev pub timeAsked : MaybeTimeCode → Answer
-timeAsked time = answer (verdict (timeCodeChecks time)) (timeCodeSize time)
-
-abbrev pub servicesAsked : MaybeServiceInfo → Answer
-servicesAsked services = answer (verdict (svcInfoChecks services)) (svcInfoSize services)
-
-abbrev pub packetAsked : Framerate → MaybeTimeCode → MaybeServiceInfo → ℕ → Answer
-packetAsked rate time services run = answer (verdict (packetChecks rate time services run)) (packetLength time services run)

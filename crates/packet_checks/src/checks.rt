@@ -1,6 +1,6 @@
 // Writing a packet: the checks in their order, and its length.
 ghost use mathlib.Core.Path.{_≡_};
-ghost use Rattle.packet_checks.specs.Checks as Checks;
+ghost use Rattle.packet_checks.specs.Code as Code;
 use basis::Answer;
 use services::MaybeServiceInfo;
 use times::MaybeTimeCode;
@@ -9,60 +9,84 @@ use values::Framerate;
 // The most captions that a packet can have: 31 triplets.
 const CAPTION_RUN: usize = 93;
 
+// What testing something that is to be written gives: the answer, and its length beside it. The length is 0 where it is
+// not held, and beside a refusal.
+pub struct WriteTested {
+    pub answer: Answer,
+    pub length: usize,
+}
+
+impl WriteTested {
+    fn alone(answer: Answer) -> Self
+        ensures { λ r. ⌜ r ≡ Code.withoutLength answer ⌝ }
+    {
+        Self { answer, length: 0 }
+    }
+}
+
 // Whether a packet can be written, and how long it is.
 pub fn writable(
     framerate: Framerate,
     time_code: MaybeTimeCode,
     service_info: MaybeServiceInfo,
     run: usize,
-) -> Answer
-    ensures { λ r. ⌜ r ≡ Checks.packetAsked framerate «time_code» «service_info» run ⌝ }
+) -> WriteTested
+    ensures { λ r. ⌜ r ≡ Code.packetTested framerate «time_code» «service_info» run ⌝ }
 {
     if !framerate.is_known() {
-        return Answer::UNKNOWN_FRAMERATE;
+        return WriteTested::alone(Answer::UNKNOWN_FRAMERATE);
     }
     if CAPTION_RUN < run {
-        return Answer::WRONG_CAPTION_RUN;
+        return WriteTested::alone(Answer::WRONG_CAPTION_RUN);
     }
     if run % 3 != 0 {
-        return Answer::WRONG_CAPTION_RUN;
+        return WriteTested::alone(Answer::WRONG_CAPTION_RUN);
     }
-    let timed = time_code_size(time_code);
-    if !timed.is_done() {
-        return timed;
+    let timed = time_code_tested(time_code);
+    let time_answer = timed.answer;
+    if !time_answer.is_done() {
+        return WriteTested::alone(time_answer);
     }
-    let served = svc_info_size(service_info);
-    if !served.is_done() {
-        return served;
+    let served = svc_info_tested(service_info);
+    let list_answer = served.answer;
+    if !list_answer.is_done() {
+        return WriteTested::alone(list_answer);
     }
-    Answer::done(7 + timed.first + (2 + run) + served.first + 4)
+    WriteTested {
+        answer: Answer::done(0),
+        length: 7 + timed.length + (2 + run) + served.length + 4,
+    }
 }
 
-// The time code's size, or 12 where it cannot be written.
-fn time_code_size(time_code: MaybeTimeCode) -> Answer
-    ensures { λ r. ⌜ r ≡ Checks.timeAsked «time_code» ⌝ }
+// 12 where a time code that is held cannot be written.
+fn time_code_tested(time_code: MaybeTimeCode) -> WriteTested
+    ensures { λ r. ⌜ r ≡ Code.timeTested «time_code» ⌝ }
 {
     if !time_code.present {
-        return Answer::done(0);
+        return WriteTested::alone(Answer::done(0));
     }
     let written = time_code.time_code.to_bytes();
-    let checked = written.answer;
-    if !checked.is_done() {
-        return checked;
+    let answer = written.answer;
+    if !answer.is_done() {
+        return WriteTested::alone(answer);
     }
-    Answer::done(5)
+    WriteTested { answer, length: 5 }
 }
 
-// The section's size, or 10 or 12 where the list cannot be written.
-fn svc_info_size(service_info: MaybeServiceInfo) -> Answer
-    ensures { λ r. ⌜ r ≡ Checks.servicesAsked «service_info» ⌝ }
+// 10 or 12 where a list that is held cannot be written.
+fn svc_info_tested(service_info: MaybeServiceInfo) -> WriteTested
+    ensures { λ r. ⌜ r ≡ Code.servicesTested «service_info» ⌝ }
 {
     if !service_info.present {
-        return Answer::done(0);
+        return WriteTested::alone(Answer::done(0));
     }
-    let checked = service_info.service_info.writable();
-    if !checked.is_done() {
-        return checked;
+    let answer = service_info.service_info.writable();
+    if !answer.is_done() {
+        return WriteTested::alone(answer);
     }
-    service_info.service_info.byte_len()
+    let length = service_info.service_info.byte_len();
+    WriteTested {
+        answer,
+        length: length.first,
+    }
 }

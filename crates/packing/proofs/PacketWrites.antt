@@ -9,12 +9,13 @@ use lib.ListN.{length}
 use Rattle.basis.proofs.Verdicts.{refused-shows}
 use Rattle.basis.specs.Answer.{BufferTooShort, done, refused}
 use Rattle.basis.specs.Bytes.{over}
-use Rattle.basis.specs.Check.{Verdict, answer, clear, ifClear, verdict}
+use Rattle.basis.specs.Check.{Verdict, answer, clear, ifClear, roomCheck, verdict}
 use Rattle.entries.proofs.EntryWrites.{Leaves, all-fits, no-room, room-done, roomLast, values-refused}
-use Rattle.entries.specs.Writing.{Written, roomCheck, written}
+use Rattle.entries.specs.Writing.{Written, written}
 use Rattle.packet_checks.proofs.Tests.{length-most}
 use Rattle.packing.proofs.Parts.{packet-length}
-use Rattle.packet_checks.specs.Checks.{packetAsked, packetChecks, packetLength}
+use Rattle.packet_checks.specs.Checks.{packetChecks, packetLength}
+use Rattle.packet_checks.specs.Code.{packetTested}
 use Rattle.packing.specs.Writing.{packetBytes, packetWritten}
 use Rattle.basis.specs.declared.answer.Answer.{Answer}
 use Rattle.values.specs.declared.framerate.Framerate.{Framerate}
@@ -32,13 +33,14 @@ module _ (rate : Framerate) (sequence : ℕ) (time : MaybeTimeCode) (services : 
   as-written : roomLast (packetChecks rate time services run) (packetLength time services run) (packetBytes rate sequence time services captions) buffer ≡ packetWritten rate sequence time services captions buffer
   unfolding packetWritten
   as-written =
-      let v : Verdict = verdict (packetChecks rate time services run ++ roomCheck (packetLength time services run) buffer ∷ []) in
+      let v : Verdict = verdict (packetChecks rate time services run ++ roomCheck (packetLength time services run) (length buffer) ∷ []) in
       ap (λ (n : ℕ). left (answer v n) (ifClear v (over 0 (packetBytes rate sequence time services captions) buffer) buffer)) (packet-length rate sequence time services captions)
 
-  pub packet-refused : eqb (packetAsked rate time services run .number) 0 ≡ false
-      → Leaves (packetWritten rate sequence time services captions buffer) (packetAsked rate time services run) buffer
+  pub packet-refused : eqb (packetTested rate time services run .answer .number) 0 ≡ false
+      → Leaves (packetWritten rate sequence time services captions buffer) (packetTested rate time services run .answer) buffer
+  unfolding packetTested
   packet-refused h =
-      rw (← as-written) (values-refused (packetChecks rate time services run) (packetLength time services run) (packetBytes rate sequence time services captions) buffer (packetLength time services run) h)
+      rw (← as-written) (values-refused (packetChecks rate time services run) (packetLength time services run) (packetBytes rate sequence time services captions) buffer 0 h)
 
   module _ (right : verdict (packetChecks rate time services run) ≡ clear) where
     pub packet-no-room : length buffer < packetLength time services run
@@ -70,5 +72,5 @@ module _ (rate : Framerate) (sequence : ℕ) (time : MaybeTimeCode) (services : 
   pub refusal-writes-nothing : eqb (packetWritten rate sequence time services captions buffer .answer .number) 0 ≡ false → packetWritten rate sequence time services captions buffer .buffer ≡ buffer
   unfolding packetWritten
   refusal-writes-nothing h =
-      let v : Verdict = verdict (packetChecks rate time services run ++ roomCheck (packetLength time services run) buffer ∷ []) in
+      let v : Verdict = verdict (packetChecks rate time services run ++ roomCheck (packetLength time services run) (length buffer) ∷ []) in
       sym (refused-shows (λ (a : Answer) (b : List ℕ). b) v (packetLength time services run) 0 (over 0 (packetBytes rate sequence time services captions) buffer) buffer h)

@@ -10,7 +10,8 @@ use lib.ListN.{length, drop, length-append, length-drop, take}
 use lib.Seq.{length-take-le}
 use Rattle.basis.proofs.Puts.{over-nil, over-over, part-over, put-fits, put-put, take-over, take-put}
 use Rattle.basis.proofs.Verdicts.{when-there}
-use Rattle.basis.specs.Bytes.{over, put}
+use Rattle.basis.specs.Bytes.{over}
+use Rattle.basis.specs.Code.{put}
 use Rattle.basis.specs.Check.{Verdict, clear, ifClear, sizeWhen, verdict}
 use Rattle.values.specs.Checksum.{negative, total}
 use Rattle.values.specs.Packet.{captionsId, timeCodeId}

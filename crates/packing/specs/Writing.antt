@@ -4,13 +4,13 @@ use mathlib.Core.List.{List, [], _∷_, _++_}
 use Prim.Native.Nat.{ℕ, _+_, _*_, _/_}
 use lib.ListN.{length}
 use Rattle.basis.specs.Bytes.{over}
-use Rattle.basis.specs.Check.{verdict, answer, ifClear}
+use Rattle.basis.specs.Check.{verdict, answer, ifClear, roomCheck}
 use Rattle.values.specs.Checksum.{total, negative}
 use Rattle.values.specs.Flags.{flagByte}
 use Rattle.values.specs.Packet.{timeCodeId, captionsId, footerId}
 use Rattle.values.specs.Sequence.{sequenceBytes}
 use Rattle.times.specs.Time.{timeBytes}
-use Rattle.entries.specs.Writing.{Written, roomCheck}
+use Rattle.entries.specs.Writing.{Written}
 use Rattle.services.specs.Writing.{sectionBytes}
 use Rattle.packet_checks.specs.Checks.{packetChecks, packetLength}
 use Rattle.services.specs.declared.list.MaybeServiceInfo.{MaybeServiceInfo}
@@ -70,5 +70,5 @@ packetBytes rate sequence time services captions =
 unfoldable pub packetWritten : Framerate → ℕ → MaybeTimeCode → MaybeServiceInfo → List ℕ → List ℕ → Written
 packetWritten rate sequence time services captions buffer =
     let run = length captions in
-    let v = verdict (packetChecks rate time services run ++ roomCheck (packetLength time services run) buffer ∷ []) in
+    let v = verdict (packetChecks rate time services run ++ roomCheck (packetLength time services run) (length buffer) ∷ []) in
     record { answer = answer v (packetLength time services run); buffer = ifClear v (over 0 (packetBytes rate sequence time services captions) buffer) buffer }

@@ -31,11 +31,12 @@ pub fn write_packet(
     ensures { λ r. ⌜ r ≡ Writing.packetWritten framerate sequence «time_code» «service_info» (now (captions .entry)) (now (out .entry)) .answer ⌝ }
     ensures { λ r. ⌜ now (out .exit) ≡ Writing.packetWritten framerate sequence «time_code» «service_info» (now (captions .entry)) (now (out .entry)) .buffer ⌝ }
 {
-    let checked = writable(framerate, time_code, service_info, captions.len());
-    if !checked.is_done() {
-        return checked;
+    let tested = writable(framerate, time_code, service_info, captions.len());
+    let answer = tested.answer;
+    if !answer.is_done() {
+        return answer;
     }
-    let needed = checked.first;
+    let needed = tested.length;
     let room = out.len();
     if room < needed {
         return Answer::buffer_too_short(needed, room);
@@ -49,7 +50,7 @@ pub fn write_packet(
         needed,
         out,
     );
-    checked
+    Answer::done(needed)
 }
 
 // What the packet has: captions always, the others where they are held.
@@ -76,7 +77,7 @@ fn flags(time_code: MaybeTimeCode, service_info: MaybeServiceInfo) -> Flags
     }
 }
 
-// Each part begins where the one before it ends.
+// Each part begins where the one before it ends. The room for all of them is tested, so that no put refuses.
 fn put_packet(
     framerate: Framerate,
     sequence: u16,

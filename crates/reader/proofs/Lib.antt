@@ -1,3 +1,5 @@
+pub mod Handing
+pub mod ListMade
 pub mod PacketShown
 pub mod ReaderReads
 pub mod Refusals

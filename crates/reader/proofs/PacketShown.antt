@@ -5,19 +5,21 @@ use mathlib.Core.List.{List}
 use mathlib.Core.Path.{_≡_, refl}
 use Prim.Native.Nat.{ℕ}
 use lib.Dec.{eqb}
-use Rattle.basis.proofs.Verdicts.{done-clear, done-value}
+use Rattle.basis.proofs.Verdicts.{done-clear, done-value, when-there}
 use Rattle.basis.specs.Answer.{done}
 use Rattle.basis.specs.Check.{Verdict, answer, broken, clear, ifClear, verdict}
 use Rattle.header.specs.Header.{flagsIn, rateOf, sequenceIn}
 use Rattle.time_section.specs.TimeCode.{timeCodeOf}
-use Rattle.svc_section.specs.SvcInfo.{svcInfoShown}
-use Rattle.svc_section.proofs.SvcInfoReads.{shown-where-clear}
+use Rattle.svc_section.specs.SvcInfo.{svcInfoChecks, svcInfoOf}
 use Rattle.checked.proofs.PacketReads.{given, svc-info-of-packet}
-use Rattle.checked.specs.Packet.{captionLength, ccDataAt, checkedRead, checkedShown, packetChecks, refusedChecked, svcInfoAt}
-use Rattle.reader.specs.Shown.{fresh, packetRead, refusedPacket, shownBy, state}
+use Rattle.checked.specs.Packet.{captionLength, ccDataAt, packetChecks, svcInfoAt}
+use Rattle.checked.specs.Code.{checkedRead, checkedShown, refusedChecked}
+use Rattle.reader.specs.Shown.{fresh, shownBy, state}
+use Rattle.reader.specs.Code.{packetRead, refusedPacket}
 use Rattle.reader.specs.declared.packet.PacketRead.{PacketRead}
 use Rattle.reader.specs.declared.parser.CDPParser.{CDPParser}
 use Rattle.checked.specs.declared.checked.Checked.{Checked}
+use Rattle.values.specs.declared.flags.Flags.{Flags}
 
 -- a packet before its list is made has the same answer
 given-answer : (v : Verdict) (length : ℕ) (shown : Checked) → shown .answer ≡ done length → given v length shown .answer ≡ answer v length
@@ -44,15 +46,30 @@ module _ (p : List ℕ) where
   unfolding packetRead
   none-shown h = none (verdict (packetChecks p)) (captionLength p) (shownBy p) (ccDataAt p) h
 
+  pub packet-clear : eqb (packetRead p .answer .number) 0 ≡ true → verdict (packetChecks p) ≡ clear
+  unfolding packetRead
+  packet-clear h = done-clear (verdict (packetChecks p)) (captionLength p) h
+
   pub all-shown : eqb (packetRead p .answer .number) 0 ≡ true
-      → _≡_ {A = PacketRead}
-      (record {
-        answer = done (captionLength p);
-        shown = state (rateOf p) (timeCodeOf p (flagsIn p .«time_code») 7) (sequenceIn p) (svcInfoShown p (flagsIn p) (svcInfoAt p));
-        «cc_data_at» = ccDataAt p;
-      })
-      (packetRead p)
-  unfolding packetRead shownBy
+      → _≡_ {A = PacketRead} (record { answer = done (captionLength p); shown = shownBy p; «cc_data_at» = ccDataAt p }) (packetRead p)
+  unfolding packetRead
   all-shown h =
       let v : verdict (packetChecks p) ≡ clear = done-clear (verdict (packetChecks p)) (captionLength p) h in
-      rw (v, shown-where-clear p (flagsIn p) (svcInfoAt p) (svc-info-of-packet p v))
+      rw v
+
+  -- the packet's values, once its tests are clear
+  pub checked-clear : verdict (packetChecks p) ≡ clear → checkedRead p ≡ checkedShown p
+  unfolding checkedRead
+  checked-clear v = rw v
+
+  list-kept : verdict (packetChecks p) ≡ clear → flagsIn p .«svc_info» ≡ true → verdict (svcInfoChecks p (flagsIn p) (svcInfoAt p)) ≡ clear
+  list-kept v on = when-there (flagsIn p .«svc_info») (svcInfoChecks p (flagsIn p) (svcInfoAt p)) on (svc-info-of-packet p v)
+
+  -- the same of flags and a place that are the packet's
+  pub kept-so : (f : Flags) (i : ℕ) → verdict (packetChecks p) ≡ clear → f ≡ flagsIn p → i ≡ svcInfoAt p
+      → f .«svc_info» ≡ true → verdict (svcInfoChecks p f i) ≡ clear
+  kept-so f i v fe ie = rw (fe, ie) (list-kept v)
+
+  pub shown-is : state (rateOf p) (timeCodeOf p (flagsIn p .«time_code») 7) (sequenceIn p) (svcInfoOf p (flagsIn p) (svcInfoAt p)) ≡ shownBy p
+  unfolding shownBy
+  shown-is = refl

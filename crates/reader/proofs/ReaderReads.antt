@@ -4,23 +4,21 @@ use mathlib.Core.Bool.{Bool, true, false, cond}
 use mathlib.Core.List.{List, []}
 use mathlib.Core.Path.{_≡_, _∙_, sym, refl, ap}
 use Prim.Native.Nat.{ℕ, _+_, _≤_, _<_}
-use native.Mathlib.Omega.{arith}
-use borrow.Author.Tests.{le-leb, lt-leb, lt-ltb}
-use lib.Dec.{eqb, ltb}
+use borrow.Author.Tests.{le-leb, lt-leb}
+use lib.Dec.{eqb}
 use lib.ListN.{length}
-use Rattle.basis.proofs.Verdicts.{done-clear, refused-shows, when-there}
+use Rattle.basis.proofs.Verdicts.{refused-shows, when-there}
 use Rattle.basis.specs.Answer.{BufferTooShort, done, refused}
 use Rattle.basis.specs.Bytes.{over}
 use Rattle.basis.specs.Check.{Verdict, answer, clear, ifClear, sizeWhen, verdict}
-use Rattle.cc_section.proofs.CcDataReads.{captions-there, handed-long, handed-over, nothing-out}
-use Rattle.cc_section.specs.CcData.{ccDataChecks, ccDataSize, handOut, handedOut}
-use Rattle.header.specs.Header.{flagsIn, rateOf, sequenceIn}
-use Rattle.time_section.specs.TimeCode.{timeCodeOf}
-use Rattle.svc_section.specs.SvcInfo.{svcInfoShown}
+use Rattle.cc_section.proofs.CcDataReads.{captions-there, handed-long}
+use Rattle.cc_section.specs.CcData.{ccDataChecks, ccDataSize, handedOut}
+use Rattle.header.specs.Header.{flagsIn}
 use Rattle.checked.proofs.PacketReads.{cc-data-of-packet}
-use Rattle.reader.proofs.PacketShown.{all-shown}
-use Rattle.checked.specs.Packet.{captionLength, ccDataAt, packetChecks, svcInfoAt}
-use Rattle.reader.specs.Shown.{fresh, packetRead, shownBy, state}
+use Rattle.reader.proofs.PacketShown.{all-shown, packet-clear}
+use Rattle.checked.specs.Packet.{captionLength, ccDataAt, packetChecks}
+use Rattle.reader.specs.Shown.{fresh, shownBy}
+use Rattle.reader.specs.Code.{packetRead}
 use Rattle.reader.specs.declared.packet.PacketRead.{PacketRead}
 use Rattle.reader.specs.Reader.{bufferAfter, captionsOf, cleared, read}
 use Rattle.reader.specs.declared.parser.CDPParser.{CDPParser}
@@ -30,22 +28,8 @@ use Rattle.basis.specs.declared.answer.Answer.{Answer}
 abbrev result : Answer → CDPParser → CDPParserRead
 result a s = record { answer = a; parser = s }
 
--- a length of 0 goes with no caption section, and nothing put is nothing changed
-captions-out : (p : List ℕ) (i : ℕ) (buffer : List ℕ) → 95 ≤ length buffer → (present : Bool)
-    → (present ≡ true → i + ccDataSize p i ≤ length p)
-    → handOut p (ltb 0 (sizeWhen present (ccDataSize p i))) i buffer ≡ over 0 (cond present (handedOut p i) []) buffer
-unfolding over
-captions-out p i buffer room true there =
-    handed-over p i (ltb 0 (ccDataSize p i)) (lt-ltb 0 (ccDataSize p i) (omega arith)) buffer (omega (arith, there refl)) (omega arith)
-captions-out p i buffer room false there = sym (nothing-out p i false buffer refl)
-
--- the packet's verdict, where its answer is done
-packet-clear : (p : List ℕ) → eqb (packetRead p .answer .number) 0 ≡ true → verdict (packetChecks p) ≡ clear
-unfolding packetRead
-packet-clear p right = done-clear (verdict (packetChecks p)) (captionLength p) right
-
 -- an accepted packet has all bytes of its captions, and as many are handed out as its answer says
-has-captions : (p : List ℕ) → verdict (packetChecks p) ≡ clear → flagsIn p .«cc_data» ≡ true → ccDataAt p + ccDataSize p (ccDataAt p) ≤ length p
+pub has-captions : (p : List ℕ) → verdict (packetChecks p) ≡ clear → flagsIn p .«cc_data» ≡ true → ccDataAt p + ccDataSize p (ccDataAt p) ≤ length p
 has-captions p h on = captions-there p (ccDataAt p) (when-there _ (ccDataChecks p (ccDataAt p)) on (cc-data-of-packet p h))
 
 out-long : (p : List ℕ) (i : ℕ) (present : Bool) → (present ≡ true → i + ccDataSize p i ≤ length p)
@@ -79,9 +63,7 @@ module _ (s : CDPParser) (p : List ℕ) (room : ℕ) where
         ∙ ap (λ (v : Verdict). result (answer v (captionLength p)) (ifClear v (shownBy p) (cleared s))) (sym (packet-clear p right))
         ∙ as-packet
 
-    pub packet-accepted : eqb (packetRead p .answer .number) 0 ≡ true
-        → result (done (captionLength p)) (state (rateOf p) (timeCodeOf p (flagsIn p .«time_code») 7) (sequenceIn p) (svcInfoShown p (flagsIn p) (svcInfoAt p)))
-        ≡ read s p room
+    pub packet-accepted : eqb (packetRead p .answer .number) 0 ≡ true → result (done (captionLength p)) (shownBy p) ≡ read s p room
     packet-accepted right = ap (λ (r : PacketRead). result (r .answer) (r .shown)) (all-shown p right) ∙ shown-accepted right
 
 -- the buffer
@@ -102,8 +84,5 @@ module _ (p : List ℕ) (buffer : List ℕ) where
         ∙ buffer-as-packet
 
     module _ (right : eqb (packetRead p .answer .number) 0 ≡ true) where
-      pub accepted-buffer : handOut p (ltb 0 (captionLength p)) (ccDataAt p) buffer ≡ bufferAfter p buffer
-      accepted-buffer =
-          captions-out p (ccDataAt p) buffer enough (flagsIn p .«cc_data») (has-captions p (packet-clear p right))
-          ∙ ap (λ (v : Verdict). ifClear v (over 0 (captionsOf p) buffer) buffer) (sym (packet-clear p right))
-          ∙ buffer-as-packet
+      pub accepted-buffer : over 0 (captionsOf p) buffer ≡ bufferAfter p buffer
+      accepted-buffer = ap (λ (v : Verdict). ifClear v (over 0 (captionsOf p) buffer) buffer) (sym (packet-clear p right)) ∙ buffer-as-packet

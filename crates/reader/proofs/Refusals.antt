@@ -13,7 +13,7 @@ use lib.Seq.{take-at}
 use Rattle.basis.proofs.Verdicts.{done-clear, kept-rest, refused-not-done, refused-shows}
 use Rattle.basis.specs.Answer.{BufferTooShort}
 use Rattle.basis.specs.Bytes.{byte, over}
-use Rattle.basis.specs.Check.{Check, Verdict, answer, broken, check, clear, ifClear, verdict}
+use Rattle.basis.specs.Check.{Verdict, answer, broken, clear, ifClear, roomCheck, verdict}
 use Rattle.values.specs.Rate.{noRate}
 use Rattle.times.specs.Time.{timeAbsent}
 use Rattle.footer.proofs.FooterFound.{checksum-kept}
@@ -52,10 +52,6 @@ clears true (broken why) room length shown s h k = refl
 refused-unless : (v : Verdict) (length : ℕ) → (v ≡ clear → ⊥) → eqb (answer v length .number) 0 ≡ false
 refused-unless clear length h = absurd (h refl)
 refused-unless (broken why) length h = refused-not-done why
-
--- rule 1, as the first of the reader's checks
-abbrev roomCheck : ℕ → Check
-roomCheck room = check (leb captionRoom room) (BufferTooShort captionRoom room)
 
 keeps : (enough : Bool) (v : Verdict) (room length : ℕ) (shown s : CDPParser)
     → eqb (gives enough v room length shown s .answer .number) 0 ≡ false
@@ -101,7 +97,7 @@ module _ (s : CDPParser) (p buffer : List ℕ) where
   unfolding read
   long-refused a b =
       refused-unless (verdict (readChecks p (length buffer))) (captionLength p)
-      (λ h. let s = size-of-packet p (kept-rest (roomCheck (length buffer)) (packetChecks p) h) in omega (arith, a, b, s))
+      (λ h. let s = size-of-packet p (kept-rest (roomCheck captionRoom (length buffer)) (packetChecks p) h) in omega (arith, a, b, s))
 
   -- no refusal, 11 or another, changes the service list or whether there is one
   pub list-only-from-accepted : eqb (given .answer .number) 0 ≡ false → given .parser .«service_info» ≡ s .«service_info»
@@ -115,7 +111,7 @@ module _ (s : CDPParser) (p buffer : List ℕ) where
     unfolding read
     bad-checksum-refused =
         refused-unless (verdict (readChecks p (length buffer))) (captionLength p)
-        (λ h. wrong (checksum-kept p (sequenceIn p) (closingAt p) (closing-of-packet p (kept-rest (roomCheck (length buffer)) (packetChecks p) h))))
+        (λ h. wrong (checksum-kept p (sequenceIn p) (closingAt p) (closing-of-packet p (kept-rest (roomCheck captionRoom (length buffer)) (packetChecks p) h))))
 
     pub no-list-from-bad-checksum : given .parser .«service_info» ≡ s .«service_info»
     no-list-from-bad-checksum = list-only-from-accepted bad-checksum-refused
@@ -131,4 +127,4 @@ module _ (s : CDPParser) (p buffer : List ℕ) where
   acceptance-hands-out h =
       let all : verdict (readChecks p (length buffer)) ≡ clear = done-clear (verdict (readChecks p (length buffer))) (captionLength p) h in
       ap (λ (v : Verdict). take (answer v (captionLength p) .first) (ifClear v (over 0 (captionsOf p) buffer) buffer)) all
-      ∙ take-at (captionsOf p) (drop (0 + length (captionsOf p)) buffer) (captionLength p) (captions-long p (kept-rest (roomCheck (length buffer)) (packetChecks p) all))
+      ∙ take-at (captionsOf p) (drop (0 + length (captionsOf p)) buffer) (captionLength p) (captions-long p (kept-rest (roomCheck captionRoom (length buffer)) (packetChecks p) all))

@@ -4,9 +4,8 @@ use mathlib.Core.List.{List, [], _∷_}
 use Prim.Native.Nat.{ℕ}
 use lib.Dec.{leb}
 use lib.ListN.{length}
-use Rattle.basis.specs.Answer.{BufferTooShort}
 use Rattle.basis.specs.Bytes.{over}
-use Rattle.basis.specs.Check.{Check, check, verdict, answer, ifClear}
+use Rattle.basis.specs.Check.{Check, roomCheck, verdict, answer, ifClear}
 use Rattle.values.specs.Rate.{noRate}
 use Rattle.times.specs.Time.{timeAbsent}
 use Rattle.cc_section.specs.CcData.{handedOut}
@@ -22,7 +21,7 @@ captionRoom = 95
 
 -- rules 1 to 9
 abbrev pub readChecks : List ℕ → ℕ → List Check
-readChecks p room = check (leb captionRoom room) (BufferTooShort captionRoom room) ∷ packetChecks p
+readChecks p room = roomCheck captionRoom room ∷ packetChecks p
 
 -- a refused packet: rate and time code absent, sequence 0, the service list as it was
 abbrev pub cleared : CDPParser → CDPParser

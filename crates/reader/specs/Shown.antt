@@ -1,18 +1,15 @@
 -- What an accepted packet shows, and what reading one gives with no state.
 use mathlib.Core.List.{List}
 use Prim.Native.Nat.{ℕ}
-use Rattle.basis.specs.Check.{verdict, answer, ifClear}
 use Rattle.values.specs.Rate.{noRate}
 use Rattle.times.specs.Time.{timeAbsent}
 use Rattle.services.specs.ServiceList.{listAbsent}
 use Rattle.header.specs.Header.{rateOf, flagsIn, sequenceIn}
 use Rattle.time_section.specs.TimeCode.{timeCodeOf}
 use Rattle.svc_section.specs.SvcInfo.{svcInfoOf}
-use Rattle.checked.specs.Packet.{captionLength, ccDataAt, packetChecks, svcInfoAt, timeCodeAt}
-use Rattle.reader.specs.declared.packet.PacketRead.{PacketRead}
+use Rattle.checked.specs.Packet.{svcInfoAt, timeCodeAt}
 use Rattle.reader.specs.declared.parser.CDPParser.{CDPParser}
 use Rattle.services.specs.declared.list.MaybeServiceInfo.{MaybeServiceInfo}
-use Rattle.basis.specs.declared.answer.Answer.{Answer}
 use Rattle.values.specs.declared.framerate.MaybeFramerate.{MaybeFramerate}
 use Rattle.times.specs.declared.time_code.MaybeTimeCode.{MaybeTimeCode}
 
@@ -31,17 +28,3 @@ shownBy p =
     (timeCodeOf p (flagsIn p .«time_code») timeCodeAt)
     (sequenceIn p)
     (svcInfoOf p (flagsIn p) (svcInfoAt p))
-
--- what reading a packet gives, with no state and no buffer
-unfoldable pub packetRead : List ℕ → PacketRead
-packetRead p =
-    let v = verdict (packetChecks p) in
-    record {
-      answer = answer v (captionLength p);
-      shown = ifClear v (shownBy p) fresh;
-      «cc_data_at» = ifClear v (ccDataAt p) 0;
-    }
-
--- a refusal shows what a new reader does
-abbrev pub refusedPacket : Answer → PacketRead
-refusedPacket a = record { answer = a; shown = fresh; «cc_data_at» = 0 }

@@ -1,4 +1,6 @@
 // The packet reader: parser.rs of the Rust.
+mod captions;
+mod list;
 mod packet;
 mod parser;
 mod shown;

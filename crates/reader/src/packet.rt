@@ -1,6 +1,6 @@
 // One packet, read with no state and no caption buffer.
 ghost use mathlib.Core.Path.{_≡_};
-ghost use Rattle.reader.specs.Shown.{packetRead, refusedPacket};
+ghost use Rattle.reader.specs.Code.{packetRead, refusedPacket};
 use crate::parser::CDPParser;
 use crate::shown::shown;
 use basis::Answer;

@@ -1,11 +1,13 @@
 // The reader: what it shows, and how a packet or a flush changes that.
+ghost use mathlib.Core.List.{_∷_};
 ghost use mathlib.Core.Path.{_≡_};
 ghost use lib.ListN.{length};
+ghost use Rattle.values.specs.Code.{constants};
 ghost use Rattle.reader.specs.Shown.{fresh};
 ghost use Rattle.reader.specs.Reader as Reader;
+use crate::captions::hand_out;
 use crate::shown::shown;
 use basis::Answer;
-use cc_section::hand_out;
 use checked::Checked;
 use services::MaybeServiceInfo;
 use times::MaybeTimeCode;
@@ -40,6 +42,20 @@ impl CDPParser {
     // Rule 1: room for the most captions that a packet can have.
     pub const CAPTION_ROOM: usize = 95;
 
+    // Nothing calls this: its contract holds every constant above to the rules.
+    fn held() -> [usize; 6]
+        ensures { λ r. ⌜ r ≡ Reader.captionRoom ∷ constants ⌝ }
+    {
+        [
+            Self::CAPTION_ROOM,
+            Self::MIN_PACKET_LEN,
+            Self::TIME_CODE_ID as usize,
+            Self::CC_DATA_ID as usize,
+            Self::SVC_INFO_ID as usize,
+            Self::CDP_FOOTER_ID as usize,
+        ]
+    }
+
     // A reader that has read nothing.
     pub fn new() -> Self
         ensures { λ r. ⌜ r ≡ fresh ⌝ }
@@ -73,8 +89,7 @@ impl CDPParser {
                 parser: self.cleared(),
             };
         }
-        // A section with no captions is two bytes long: a length of 0 means that there is none.
-        hand_out(packet, 0 < answer.first, read.cc_data_at, captions);
+        hand_out(packet, read.flags.cc_data, read.cc_data_at, captions);
         CDPParserRead {
             answer,
             parser: shown(read, packet),

@@ -1,13 +1,18 @@
 // What the reader shows of a packet that is accepted.
 ghost use mathlib.Core.Path.{_≡_};
-ghost use Rattle.reader.specs.Shown.{state};
-ghost use Rattle.svc_section.specs.SvcInfo.{svcInfoShown};
+ghost use Rattle.basis.specs.Check.{verdict, clear};
+ghost use Rattle.checked.specs.Packet.{packetChecks};
+ghost use Rattle.checked.specs.Code.{checkedRead};
+ghost use Rattle.reader.specs.Shown.{shownBy};
+use crate::list::list;
 use crate::parser::CDPParser;
 use checked::Checked;
-use svc_section::svc_info_untested;
 
-pub fn shown(read: Checked, packet: &[u8]) -> CDPParser
-    ensures { λ r. ⌜ r ≡ state (read .framerate) (read .«time_code») (read .sequence) (svcInfoShown (now (packet .entry)) (read .flags) (read .«svc_info_at»)) ⌝ }
+// What the packet's tests have kept of it, and its list.
+pub(crate) fn shown(read: Checked, packet: &[u8]) -> CDPParser
+    requires { ⌜ verdict (packetChecks (now packet)) ≡ clear ⌝ }
+    requires { ⌜ read ≡ checkedRead (now packet) ⌝ }
+    ensures { λ r. ⌜ r ≡ shownBy (now (packet .entry)) ⌝ }
 {
     let framerate = read.framerate;
     let time_code = read.time_code;
@@ -16,6 +21,6 @@ pub fn shown(read: Checked, packet: &[u8]) -> CDPParser
         framerate,
         time_code,
         sequence: read.sequence,
-        service_info: svc_info_untested(packet, flags, read.svc_info_at),
+        service_info: list(packet, flags, read.svc_info_at),
     }
 }

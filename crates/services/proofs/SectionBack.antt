@@ -3,7 +3,7 @@
 use mathlib.Core.Path.{_≡_, refl, sym, ap, ap₂, _∙_}
 use mathlib.Core.Bool.{Bool, true, false, cond, not, _||_}
 use mathlib.Core.List.{List, [], _∷_, _++_}
-use Prim.Native.Nat.{ℕ, _+_, _*_, _%_, _≤_}
+use Prim.Native.Nat.{ℕ, _+_, _*_, _≤_}
 use native.Mathlib.Nat.{add-zero}
 use native.Mathlib.Omega.{arith}
 use lib.Dec.{eqb}
@@ -24,7 +24,8 @@ use Rattle.services.specs.Section.{sectionRead, listOf}
 use Rattle.entries.specs.Service.{numberOf}
 use Rattle.services.specs.ServiceList.{list, empty}
 use Rattle.entries.specs.Writing.{Written, writable, headerByte, entryBytes, sevenBytes}
-use Rattle.services.specs.Writing.{allWritable, entryListBytes, counted, sectionByte, sectionBytes, sectionWritten}
+use Rattle.services.specs.Code.{allWritable}
+use Rattle.services.specs.Writing.{entryListBytes, counted, sectionByte, sectionBytes, sectionWritten}
 use Rattle.entries.specs.declared.entry.ServiceEntry.{ServiceEntry}
 use Rattle.services.specs.declared.list.ServiceInfo.{ServiceInfo}
 use Rattle.entries.specs.declared.service.FieldOrService.{FieldOrService}
@@ -39,13 +40,13 @@ named two = cond two (broken ServiceNumberMismatch) clear
 
 -- the header byte of a number: bit 80 is set, bit 40 is clear, the low six are the number
 module _ (n : ℕ) (h : n ≤ 63) where
-  header-80 : allSet x80 (0x80 + n % 128) ≡ true
-  header-80 = all-set x80 (0x80 + n % 128) (omega arith)
+  header-80 : allSet x80 (0x80 + n) ≡ true
+  header-80 = all-set x80 (0x80 + n) (omega arith)
 
-  header-40 : allSet x40 (0x80 + n % 128) ≡ false
-  header-40 = ne-eqb (under x40 (0x80 + n % 128)) 1 (λ z. omega arith)
+  header-40 : allSet x40 (0x80 + n) ≡ false
+  header-40 = ne-eqb (under x40 (0x80 + n)) 1 (λ z. omega arith)
 
-  header-number : under x3F (0x80 + n % 128) ≡ n
+  header-number : under x3F (0x80 + n) ≡ n
   header-number = omega arith
 
 -- so each header byte has its fixed bits, and names the number that S8 asks for, unless it is field 2
@@ -194,30 +195,37 @@ module _ (l : ServiceInfo) (r : Ready l) where
       (frame-clear (sectionByte l) (entryListBytes (counted l)) fixed-set entry-bytes-length)
       (rw entries-count (checks-back (sectionBytes l) 2 (counted l) refl (r .numbers)))
 
-  entries-same : entriesOf (sectionBytes l) 2 (countOf (sectionBytes l)) ≡ counted l
-  unfolding sectionBytes
-  entries-same = rw entries-count (entries-back (sectionBytes l) 2 (counted l) refl (r .numbers) (r .languages))
-
-  pub list-back : listOf (sectionBytes l) ≡ list (l .start) (l .change) (l .complete) (filled (counted l)) (l .count)
+  -- flags and count are those that were written, whatever the entries are
+  pub byte-back : listOf (sectionBytes l)
+      ≡ list (l .start) (l .change) (l .complete) (filled (entriesOf (sectionBytes l) 2 (countOf (sectionBytes l)))) (l .count)
   unfolding listOf sectionBytes
-  list-back =
+  byte-back =
       let start : allSet x40 (sectionByte l) ≡ l .start = bit-back _ _ (one .first) in
       let change : allSet x20 (sectionByte l) ≡ l .change = bit-back _ _ (one .second) in
       let complete : allSet x10 (sectionByte l) ≡ l .complete = bit-back _ _ (one .third) in
-      rw (start, change, complete, entries-same, one .low)
+      rw (start, change, complete, one .low)
+
+  -- and so are the entries, where every language has its three bytes
+  module _ (languages : allOfThree (counted l) ≡ true) where
+    entries-same : entriesOf (sectionBytes l) 2 (countOf (sectionBytes l)) ≡ counted l
+    unfolding sectionBytes
+    entries-same = rw entries-count (entries-back (sectionBytes l) 2 (counted l) refl (r .numbers) languages)
+
+    pub list-back : listOf (sectionBytes l) ≡ list (l .start) (l .change) (l .complete) (filled (counted l)) (l .count)
+    list-back = byte-back ∙ rw entries-same
 
 -- A list that can be written, and that names no field 2: reading the section that writing makes of it is done,
 -- and gives the same flags, count and counted entries, with fillers in the places past the count.
-pub section-back : (l : ServiceInfo) → Ready l → namesFieldTwo (counted l) ≡ false
+pub section-back : (l : ServiceInfo) → Ready l → allOfThree (counted l) ≡ true → namesFieldTwo (counted l) ≡ false
     → sectionRead (sectionBytes l)
     ≡ record { answer = done 0; list = list (l .start) (l .change) (l .complete) (filled (counted l)) (l .count) }
 unfolding sectionRead
-section-back l r none = rw (section-verdict l r, none, list-back l r)
+section-back l r languages none = rw (section-verdict l r, none, list-back l r languages)
 
 -- Where the places past the count hold fillers already, that is the list itself.
-pub list-same : (l : ServiceInfo) → Ready l → namesFieldTwo (counted l) ≡ false → l .services ≡ filled (counted l)
-    → sectionRead (sectionBytes l) ≡ record { answer = done 0; list = l }
-list-same l r none rest = section-back l r none ∙ rw (← rest)
+pub list-same : (l : ServiceInfo) → Ready l → allOfThree (counted l) ≡ true → namesFieldTwo (counted l) ≡ false
+    → l .services ≡ filled (counted l) → sectionRead (sectionBytes l) ≡ record { answer = done 0; list = l }
+list-same l r languages none rest = section-back l r languages none ∙ rw (← rest)
 
 -- A list that can be written, and that names field 2 anywhere: reading its section is answered 7, with the empty list.
 pub field-two-refused : (l : ServiceInfo) → Ready l → namesFieldTwo (counted l) ≡ true
@@ -227,20 +235,19 @@ field-two-refused l r some = rw (section-verdict l r, some)
 
 -- The same of what the writer leaves in a buffer, where it answers 0: reading as many first bytes as it answers gives the list
 -- back, or 7 where it names field 2. The writer itself has seen to count and numbers.
-module _ (l : ServiceInfo) (buffer : List ℕ) (languages : allOfThree (counted l) ≡ true)
-    (taken : eqb (sectionWritten l buffer .answer .number) 0 ≡ true) where
+module _ (l : ServiceInfo) (buffer : List ℕ) (taken : eqb (sectionWritten l buffer .answer .number) 0 ≡ true) where
   ready : Ready l
   ready =
       let both = value-done l (written-done l buffer taken .0) in
-      record { count = both .0; languages = languages; numbers = both .1 }
+      record { count = both .0; numbers = both .1 }
 
   first-written : take (sectionWritten l buffer .answer .first) (sectionWritten l buffer .buffer) ≡ sectionBytes l
   first-written = ap (λ (w : Written). take (w .answer .first) (w .buffer)) (written-done l buffer taken .1) ∙ first-bytes (sectionBytes l) buffer
 
-  pub written-back : namesFieldTwo (counted l) ≡ false
+  pub written-back : allOfThree (counted l) ≡ true → namesFieldTwo (counted l) ≡ false
       → sectionRead (take (sectionWritten l buffer .answer .first) (sectionWritten l buffer .buffer))
       ≡ record { answer = done 0; list = list (l .start) (l .change) (l .complete) (filled (counted l)) (l .count) }
-  written-back h = rw first-written (section-back l ready h)
+  written-back languages h = rw first-written (section-back l ready languages h)
 
   pub written-field-two : namesFieldTwo (counted l) ≡ true
       → sectionRead (take (sectionWritten l buffer .answer .first) (sectionWritten l buffer .buffer))

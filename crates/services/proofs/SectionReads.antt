@@ -11,8 +11,10 @@ use lib.ListN.{length, drop}
 use Rattle.basis.proofs.Verdicts.{done-clear, kept-first, refused-shows}
 use Rattle.basis.specs.Bytes.{byte}
 use Rattle.basis.specs.Check.{clear, sizeCheck, verdict}
-use Rattle.svc_entries.specs.Entries.{countOf, entriesOf, entriesRead, filled, sectionChecks}
-use Rattle.services.specs.Section.{listOf, listWith, refusedList, sectionRead}
+use Rattle.svc_entries.specs.Entries.{countOf, entriesOf, filled, sectionChecks}
+use Rattle.svc_entries.specs.Code.{entriesRead}
+use Rattle.services.specs.Section.{listOf, listWith, sectionRead}
+use Rattle.services.specs.Code.{refusedList}
 use Rattle.services.specs.ServiceList.{empty, list}
 use Rattle.entries.specs.declared.entry.ServiceEntry.{ServiceEntry}
 use Rattle.basis.specs.declared.answer.Answer.{Answer}

@@ -13,14 +13,18 @@ use lib.ListN.{length, getD}
 use Rattle.basis.proofs.Puts.{length-over, over-nil, over-over, put-fits}
 use Rattle.basis.proofs.Verdicts.{done-clear}
 use Rattle.basis.specs.Answer.{WouldOverflow, BufferTooShort, NotWritable, done, refused}
-use Rattle.basis.specs.Bytes.{over, put}
+use Rattle.basis.specs.Bytes.{over}
+use Rattle.basis.specs.Code.{put}
 use Rattle.basis.specs.Check.{Verdict, clear, broken, verdict, answer}
 use Rattle.values.specs.Packet.{servicesId}
 use Rattle.entries.specs.Service.{filler}
 use Rattle.svc_entries.specs.Entries.{sectionLength}
 use Rattle.services.specs.ServiceList.{byteLen}
-use Rattle.entries.specs.Writing.{sevenBytes, written}
-use Rattle.services.specs.Writing.{allWritable, counted, entryListBytes, placesFrom, sectionByte, sectionBytes, sectionWritten, valueAnswer, valueChecks}
+use Rattle.entries.proofs.EntryBack.{seven-of}
+use Rattle.entries.specs.Code.{sevenOf}
+use Rattle.entries.specs.Writing.{sevenBytes, writable, written}
+use Rattle.services.specs.Code.{allWritable, valueAnswer}
+use Rattle.services.specs.Writing.{counted, entryListBytes, placesFrom, sectionByte, sectionBytes, sectionWritten, valueChecks}
 use Rattle.entries.proofs.EntryWrites.{Leaves, all-fits, no-room, room-done, values-refused}
 use Rattle.services.proofs.Writable.{entries-verdict, same-place}
 use Rattle.entries.specs.declared.entry.ServiceEntry.{ServiceEntry}
@@ -70,15 +74,16 @@ module _ (k : ℕ) (services : List ServiceEntry) (buffer : List ℕ) where
   unfolding entriesPut
   put-none = sym (over-nil 2 buffer)
 
-  pub put-more : (d : ServiceEntry) → k < length services → 2 + 7 * k + 7 ≤ length buffer
-      → put (2 + 7 * k) (sevenBytes (getD services k d)) (entriesPut k services buffer) ≡ entriesPut (k + 1) services buffer
+  pub put-more : (d : ServiceEntry) → k < length services → 2 + 7 * k + 7 ≤ length buffer → writable (getD services k d .service) ≡ true
+      → put (2 + 7 * k) (sevenOf (getD services k d)) (entriesPut k services buffer) ≡ entriesPut (k + 1) services buffer
   unfolding entriesPut
-  put-more d h fits =
+  put-more d h fits can =
       let bytes : List ℕ = entryListBytes (placesFrom services 0 k) in
       let e : ServiceEntry = getD services k filler in
       let long : 7 * k ≡ length bytes = sym (first-length services k) in
       let room : 2 + 7 * k + 7 ≤ length (over 2 bytes buffer) = rw (length-over 2 bytes buffer (omega arith)) fits in
-      rw (same-place services k d filler h)
+      ap (λ (b : List ℕ). put (2 + 7 * k) b (over 2 bytes buffer)) (seven-of (getD services k d) can)
+      ∙ rw (same-place services k d filler h)
       (put-fits (2 + 7 * k) (sevenBytes e) (over 2 bytes buffer) room
       ∙ ap (λ (n : ℕ). over (2 + n) (sevenBytes e) (over 2 bytes buffer)) long
       ∙ over-over 2 bytes (sevenBytes e) buffer (omega arith)

@@ -1,6 +1,6 @@
 -- Whether a list can be written: its entries one after the other, and the tests of the value.
 -- Assumes nothing.
-use mathlib.Core.Path.{_≡_, refl}
+use mathlib.Core.Path.{_≡_, _∙_, sym, refl}
 use mathlib.Core.Bool.{Bool, true, false, cond, _&&_}
 use mathlib.Core.List.{List, [], _∷_}
 use Prim.Native.Nat.{ℕ, zero, suc, _+_, _-_, _≤_, _<_}
@@ -8,11 +8,13 @@ use native.Mathlib.Nat.{sub-zero, not-suc-le-zero, le-of-suc-le-suc}
 use native.Mathlib.Omega.{arith}
 use borrow.Author.Tests.{le-leb, lt-leb}
 use lib.ListN.{length, getD}
+use Rattle.basis.proofs.Bools.{and-left, and-right}
 use Rattle.basis.specs.Answer.{WouldOverflow, NotWritable, done, refused}
 use Rattle.basis.specs.Check.{Verdict, clear, broken, verdict}
 use Rattle.entries.specs.Service.{filler}
 use Rattle.entries.specs.Writing.{writable}
-use Rattle.services.specs.Writing.{allWritable, entryWriteChecks, placesFrom, counted, valueAnswer}
+use Rattle.services.specs.Code.{allWritable, valueAnswer}
+use Rattle.services.specs.Writing.{entryWriteChecks, placesFrom, counted}
 use Rattle.entries.specs.declared.entry.ServiceEntry.{ServiceEntry}
 use Rattle.services.specs.declared.list.ServiceInfo.{ServiceInfo}
 
@@ -43,6 +45,13 @@ module _ (k count : ℕ) (services : List ServiceEntry) where
 
     pub ahead-goes-on : writable (getD services k d .service) ≡ true → ahead k count services ≡ ahead (k + 1) count services
     ahead-goes-on w = rw (ahead-one in-count, ← same-place services k d filler in-places, w)
+
+    -- where all of them can be written, this one can, and so can those behind it
+    pub ahead-here : ahead k count services ≡ true → writable (getD services k d .service) ≡ true
+    ahead-here h = rw (same-place services k d filler in-places) (and-left _ (ahead (k + 1) count services) (sym (ahead-one in-count) ∙ h))
+
+    pub ahead-next : ahead k count services ≡ true → ahead (k + 1) count services ≡ true
+    ahead-next h = and-right (writable (getD services k filler .service)) _ (sym (ahead-one in-count) ∙ h)
 
   pub ahead-ends : count ≤ k → ahead k count services ≡ true
   unfolding ahead allWritable

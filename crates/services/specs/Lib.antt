@@ -2,3 +2,4 @@ pub mod ServiceList
 pub mod Section
 pub mod Writing
 pub mod RoundTrip
+pub mod Code

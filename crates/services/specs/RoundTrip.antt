@@ -6,7 +6,8 @@ use Prim.Native.Nat.{_≤_}
 use lib.Dec.{eqb}
 use lib.ListN.{length}
 use Rattle.svc_entries.specs.Entries.{places}
-use Rattle.services.specs.Writing.{counted, allWritable}
+use Rattle.services.specs.Code.{allWritable}
+use Rattle.services.specs.Writing.{counted}
 use Rattle.entries.specs.declared.entry.ServiceEntry.{ServiceEntry}
 use Rattle.services.specs.declared.list.ServiceInfo.{ServiceInfo}
 use Rattle.entries.specs.declared.service.FieldOrService.{FieldOrService}
@@ -22,13 +23,12 @@ unfoldable pub namesFieldTwo : List ServiceEntry → Bool
 namesFieldTwo [] = false
 namesFieldTwo (e ∷ es) = isFieldTwo (e .service) || namesFieldTwo es
 
--- every language has its three bytes
+-- every language has its three bytes, as its type says; what is shown of a list hangs on it, and no answer does
 unfoldable pub allOfThree : List ServiceEntry → Bool
 allOfThree [] = true
 allOfThree (e ∷ es) = eqb (length (e .language)) 3 && allOfThree es
 
--- a list that a section writer takes. Languages of three bytes are what its type says; the writer tests the others
+-- a list that a section writer takes, by what it tests; no test looks at a language
 pub record Ready (l : ServiceInfo) : Type 0 where
   pub count : l .count ≤ places
-  pub languages : allOfThree (counted l) ≡ true
   pub numbers : allWritable (counted l) ≡ true

@@ -9,7 +9,6 @@ use Rattle.services.specs.ServiceList.{list, empty}
 use Rattle.entries.specs.declared.entry.ServiceEntry.{ServiceEntry}
 use Rattle.services.specs.declared.list.ServiceInfo.{ServiceInfo}
 use Rattle.services.specs.declared.section.ServiceInfoRead.{ServiceInfoRead}
-use Rattle.basis.specs.declared.answer.Answer.{Answer}
 
 -- the list that byte 1 and these places make: 40 start, 20 change, 10 complete, the low four bits the count
 abbrev pub listWith : ℕ → List ServiceEntry → ServiceInfo
@@ -24,7 +23,3 @@ unfoldable pub sectionRead : List ℕ → ServiceInfoRead
 sectionRead d =
     let v = verdict (sectionChecks d) in
     record { answer = answer v 0; list = ifClear v (listOf d) empty }
-
--- a refusal shows the empty list
-abbrev pub refusedList : Answer → ServiceInfoRead
-refusedList a = record { answer = a; list = empty }

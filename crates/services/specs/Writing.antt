@@ -1,18 +1,16 @@
 -- Writing a section.
-use mathlib.Core.Bool.{Bool, true, _&&_}
 use mathlib.Core.List.{List, [], _∷_, _++_}
 use Prim.Native.Nat.{ℕ, zero, suc, _+_}
-use lib.ListN.{getD}
-use Rattle.basis.specs.Check.{Check, verdict, answer}
+use lib.ListN.{getD, length}
+use Rattle.basis.specs.Check.{Check, roomCheck, verdict}
 use Rattle.basis.specs.Mask.{flag}
 use Rattle.values.specs.Packet.{servicesId}
 use Rattle.entries.specs.Service.{filler}
-use Rattle.entries.specs.Writing.{Written, written, writable, entryCheck, roomCheck, sevenBytes}
+use Rattle.entries.specs.Writing.{Written, written, entryCheck, sevenBytes}
 use Rattle.svc_entries.specs.Entries.{sectionLength}
 use Rattle.services.specs.ServiceList.{countCheck}
 use Rattle.services.specs.declared.list.ServiceInfo.{ServiceInfo}
 use Rattle.entries.specs.declared.entry.ServiceEntry.{ServiceEntry}
-use Rattle.basis.specs.declared.answer.Answer.{Answer}
 
 -- the checks, and the bytes, of entries one after the other
 abbrev pub entryWriteChecks : List ServiceEntry → List Check
@@ -43,15 +41,7 @@ sectionBytes l = servicesId ∷ sectionByte l ∷ entryListBytes (counted l)
 abbrev pub valueChecks : ServiceInfo → List Check
 valueChecks l = countCheck l ∷ entryWriteChecks (counted l)
 
-unfoldable pub valueAnswer : ServiceInfo → Answer
-valueAnswer l = answer (verdict (valueChecks l)) 0
-
 -- a section: count, entries, room
 unfoldable pub sectionWritten : ServiceInfo → List ℕ → Written
 sectionWritten l buffer =
-    written (verdict (valueChecks l ++ roomCheck (sectionLength (l .count)) buffer ∷ [])) (sectionBytes l) buffer
-
--- the entries' checks as one test
-unfoldable pub allWritable : List ServiceEntry → Bool
-allWritable [] = true
-allWritable (e ∷ es) = writable (e .service) && allWritable es
+    written (verdict (valueChecks l ++ roomCheck (sectionLength (l .count)) (length buffer) ∷ [])) (sectionBytes l) buffer

@@ -1,6 +1,7 @@
 // The list: three flags, fifteen places and a count.
 ghost use mathlib.Core.Path.{_≡_};
 ghost use Rattle.services.specs.ServiceList as List;
+ghost use Rattle.svc_entries.specs.Entries.{places};
 use basis::Answer;
 use entries::ServiceEntry;
 use svc_entries::fillers;
@@ -40,6 +41,13 @@ pub struct ServiceInfoAdded {
 impl ServiceInfo {
     // How many entries a list has places for.
     pub const PLACES: usize = 15;
+
+    // Nothing calls this: its contract holds the constant above to the rules.
+    fn held() -> usize
+        ensures { λ r. ⌜ r ≡ places ⌝ }
+    {
+        Self::PLACES
+    }
 
     // No flag, no entry.
     pub fn default() -> Self

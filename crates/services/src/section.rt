@@ -1,11 +1,10 @@
 // A section, read: its entries, and the list's three flags.
 ghost use mathlib.Core.Path.{_≡_};
 ghost use Rattle.services.specs.Section as Section;
+ghost use Rattle.services.specs.Code as Code;
 use crate::list::ServiceInfo;
 use basis::Answer;
-use basis::byte;
 use entries::ServiceEntry;
-use svc_entries::entries_untested;
 use svc_entries::read_entries;
 
 // What reading gives: beside a refusal, the empty list.
@@ -17,7 +16,7 @@ pub struct ServiceInfoRead {
 impl ServiceInfoRead {
     // A refusal shows the empty list.
     fn refused(answer: Answer) -> Self
-        ensures { λ r. ⌜ r ≡ Section.refusedList answer ⌝ }
+        ensures { λ r. ⌜ r ≡ Code.refusedList answer ⌝ }
     {
         let list = ServiceInfo::default();
         Self { answer, list }
@@ -39,13 +38,6 @@ impl ServiceInfo {
             answer,
             list: Self::with(data[1], services),
         }
-    }
-
-    // The list that a section's bytes hold, whatever their fixed bits are; no bytes hold the empty list.
-    pub fn untested(data: &[u8]) -> Self
-        ensures { λ r. ⌜ r ≡ Section.listOf (now («data» .entry)) ⌝ }
-    {
-        Self::with(byte(data, 1), entries_untested(data))
     }
 
     // The list that a section's byte 1 and these places make.

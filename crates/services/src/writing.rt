@@ -1,9 +1,12 @@
 // Writing: a list as a section.
 ghost use mathlib.Core.Path.{_≡_};
+ghost use mathlib.Core.Bool.{true};
 ghost use Prim.Native.Nat.{_+_, _*_, _≤_};
 ghost use lib.ListN.{length};
 ghost use Rattle.basis.specs.Bytes as Bytes;
+ghost use Rattle.services.specs.Code.{allWritable};
 ghost use Rattle.services.specs.Writing as Writing;
+ghost use Rattle.services.specs.Code as Code;
 use crate::list::ServiceInfo;
 use basis::Answer;
 use basis::flag;
@@ -14,7 +17,7 @@ use values::Packet;
 impl ServiceInfo {
     // Whether the list can be written: its count, then its entries.
     pub fn writable(self) -> Answer
-        ensures { λ r. ⌜ r ≡ Writing.valueAnswer self ⌝ }
+        ensures { λ r. ⌜ r ≡ Code.valueAnswer self ⌝ }
     {
         let count = self.count;
         let services = self.services;
@@ -50,6 +53,7 @@ impl ServiceInfo {
     fn put_section(self, out: &mut [u8])
         requires { ⌜ self .count ≤ 15 ⌝ }
         requires { ⌜ 2 + 7 * self .count ≤ length (now out) ⌝ }
+        requires { ⌜ allWritable (Writing.counted self) ≡ true ⌝ }
         ensures { λ _. ⌜ now (out .exit) ≡ Bytes.over 0 (Writing.sectionBytes self) (now (out .entry)) ⌝ }
     {
         let head = [Packet::SVC_INFO_ID, self.header_byte()];
@@ -73,7 +77,7 @@ impl ServiceInfo {
 
 fn all_writable(services: [ServiceEntry; 15], count: usize) -> bool
     requires { ⌜ count ≤ 15 ⌝ }
-    ensures { λ r. ⌜ r ≡ Writing.allWritable (Writing.placesFrom services 0 count) ⌝ }
+    ensures { λ r. ⌜ r ≡ allWritable (Writing.placesFrom services 0 count) ⌝ }
 {
     for k in 0..count {
         let entry = services[k];
@@ -88,6 +92,7 @@ fn all_writable(services: [ServiceEntry; 15], count: usize) -> bool
 fn put_entries(services: [ServiceEntry; 15], count: usize, out: &mut [u8])
     requires { ⌜ count ≤ 15 ⌝ }
     requires { ⌜ 2 + 7 * count ≤ length (now out) ⌝ }
+    requires { ⌜ allWritable (Writing.placesFrom services 0 count) ≡ true ⌝ }
     ensures { λ _. ⌜ now (out .exit) ≡ Bytes.over 2 (Writing.entryListBytes (Writing.placesFrom services 0 count)) (now (out .entry)) ⌝ }
 {
     for k in 0..count {

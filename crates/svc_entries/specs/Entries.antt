@@ -1,21 +1,17 @@
 -- Rules S1 to S8: the checks of a section, and the entries that it holds.
 use mathlib.Core.Bool.{cond, not, _||_}
 use mathlib.Core.List.{List, [], _∷_, _++_}
-use mathlib.Core.Path.{_≡_}
-use Prim.Native.Nat.{ℕ, zero, suc, _+_, _-_, _*_, _/_, _%_}
+use Prim.Native.Nat.{ℕ, zero, suc, _+_, _-_, _*_}
 use lib.Dec.{eqb}
 use lib.ListN.{length, replicate}
 use Rattle.basis.specs.Answer.{LengthMismatch, WrongMagic, InvalidFixedBits, ServiceNumberMismatch}
 use Rattle.basis.specs.Bytes.{byte}
-use Rattle.basis.specs.Check.{Check, check, sizeCheck, verdict, answer, ifClear}
+use Rattle.basis.specs.Check.{Check, check, sizeCheck}
 use Rattle.basis.specs.Mask.{under, allSet, x80, x40, x20, x3F, x1F, x0F}
 use Rattle.values.specs.Packet.{servicesId}
 use Rattle.entries.specs.Entry.{entryChecks, entryOf}
 use Rattle.entries.specs.Service.{filler, numberOf}
 use Rattle.entries.specs.declared.entry.ServiceEntry.{ServiceEntry}
-use Rattle.entries.specs.declared.entry.ServiceEntryRead.{ServiceEntryRead}
-use Rattle.svc_entries.specs.declared.section.EntriesRead.{EntriesRead}
-use Rattle.basis.specs.declared.answer.Answer.{Answer}
 
 -- how many entries a list has places for
 abbrev pub places : ℕ
@@ -61,12 +57,6 @@ checksAt d at =
     ∷ entryChecks (sixBehind d at)
     ++ check (eqb (namedBy (byte d at)) (numberOf (entryOf (sixBehind d at) .service))) ServiceNumberMismatch ∷ []
 
--- what reading a header byte and its entry gives
-unfoldable pub readAt : List ℕ → ℕ → ServiceEntryRead
-readAt d at =
-    let v = verdict (checksAt d at) in
-    record { answer = answer v 0; entry = ifClear v (entryOf (sixBehind d at)) filler }
-
 -- so many entries from a place on, first to last: their checks, and what they hold
 abbrev pub entryListChecks : List ℕ → ℕ → ℕ → List Check
 entryListChecks d at zero = []
@@ -78,20 +68,3 @@ entriesOf d at (suc n) = entryOf (sixBehind d at) ∷ entriesOf d (at + 7) n
 
 unfoldable pub sectionChecks : List ℕ → List Check
 sectionChecks d = frameChecks d ++ entryListChecks d 2 (countOf d)
-
--- what reading the entries of a section alone gives
-unfoldable pub entriesRead : List ℕ → EntriesRead
-entriesRead d =
-    let v = verdict (sectionChecks d) in
-    record { answer = answer v 0; services = ifClear v (filled (entriesOf d 2 (countOf d))) fillers }
-
--- a refusal shows no entry
-abbrev pub refusedEntries : Answer → EntriesRead
-refusedEntries a = record { answer = a; services = fillers }
-
--- S1 to S4 as one fact: what holds where the entries are read
-pub record Framed (d : List ℕ) (header : ℕ) : Type 0 where
-  pub id : byte d 0 ≡ servicesId
-  pub first : byte d 1 ≡ header
-  pub fixed : header / 128 % 2 ≡ 1
-  pub size : length d ≡ 2 + 7 * (header % 16)

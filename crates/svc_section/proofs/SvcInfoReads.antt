@@ -1,55 +1,60 @@
 -- Rule 7, test by test: what the definition gives where a test is the first that fails, and where none does.
 -- Assumes nothing.
-use mathlib.Core.Bool.{Bool, Bool·beq, cond, not, true, false}
+use mathlib.Core.Bool.{Bool, Bool·beq, not, true, false}
 use mathlib.Core.List.{List, [], _∷_, _++_}
-use mathlib.Core.Path.{_≡_, _∙_, sym, ap, refl}
+use mathlib.Core.Path.{_≡_, _∙_, sym, ap}
 use Prim.Native.Nat.{ℕ, _+_, _-_, _*_, _/_, _%_, _≤_, _<_}
 use native.Mathlib.Omega.{arith}
-use borrow.Author.Tests.{eq-eqb, ne-eqb, le-leb, lt-leb, not-true, not-false}
+use borrow.Author.Tests.{eq-eqb, ne-eqb, le-leb, leb-true, lt-leb, not-true, not-false}
 use lib.Dec.{eqb}
 use lib.ListN.{length}
-use Rattle.basis.proofs.Verdicts.{andThen, done-clear, done-value, kept-first, kept-rest, refused-shows, refused-stays, verdict-append}
+use Rattle.basis.proofs.Places.{byte-of-part}
+use Rattle.basis.proofs.Verdicts.{andThen, done-clear, kept-first, kept-rest, refused-shows, refused-stays, verdict-append}
 use Rattle.basis.specs.Answer.{LengthMismatch, ServiceFlagsMismatched, WrongMagic, done, refused}
 use Rattle.basis.specs.Bytes.{byte, part}
-use Rattle.basis.specs.Check.{Check, Verdict, answer, check, clear, ifClear, verdict, when, sizeCheck}
+use Rattle.basis.specs.Check.{Check, Verdict, check, clear, sizeCheck, verdict}
+use Rattle.basis.specs.Code.{alone, sized, tested}
 use Rattle.values.specs.Packet.{servicesId}
-use Rattle.svc_entries.specs.Entries.{filled, sectionChecks}
-use Rattle.services.specs.Section.{listOf, sectionRead}
-use Rattle.services.specs.ServiceList.{empty, listAbsent, listPresent}
-use Rattle.svc_section.specs.SvcInfo.{noSvcInfo, sameFlags, spanOf, svcInfoBytes, svcInfoChecks, svcInfoOf, svcInfoRead, svcInfoShown, svcInfoSize, svcInfoThere}
-use Rattle.svc_section.specs.declared.svc_info.Span.{Span}
-use Rattle.svc_section.specs.declared.svc_info.SvcInfoSection.{SvcInfoSection}
-use Rattle.services.specs.declared.list.MaybeServiceInfo.{MaybeServiceInfo}
-use Rattle.services.specs.declared.list.ServiceInfo.{ServiceInfo}
+use Rattle.basis.specs.Mask.{under, x0F}
+use Rattle.svc_entries.specs.Entries.{countOf, sectionChecks}
+use Rattle.svc_entries.specs.Code.{sectionAnswer}
+use Rattle.services.specs.Section.{listOf, listWith}
+use Rattle.svc_section.specs.SvcInfo.{sameFlags, svcInfoBytes, svcInfoChecks, svcInfoSize}
+use Rattle.svc_section.specs.Code.{svcInfoTested}
 use Rattle.basis.specs.declared.answer.Answer.{Answer}
+use Rattle.basis.specs.declared.tested.Tested.{Tested}
 use Rattle.values.specs.declared.flags.Flags.{Flags}
 
-abbrev section : Answer → MaybeServiceInfo → SvcInfoSection
-section a l = record { answer = a; «service_info» = l }
+abbrev measured : Answer → ℕ → Tested
+measured a size = record { answer = a; size = size }
 
-abbrev shown : Verdict → ℕ → ServiceInfo → SvcInfoSection
-shown v size l = section (answer v size) (ifClear v (listPresent l) listAbsent)
-
--- the three flags, one after the other
-module _ (l : ServiceInfo) (f : Flags) where
+-- the three flags of byte 1, one after the other
+module _ (b : ℕ) (f : Flags) where
   abbrev sameStart : Bool
-  sameStart = Bool·beq (l .start) (f .«svc_info_start»)
+  sameStart = Bool·beq (eqb (b / 64 % 2) 1) (f .«svc_info_start»)
 
   abbrev sameChange : Bool
-  sameChange = Bool·beq (l .change) (f .«svc_info_change»)
+  sameChange = Bool·beq (eqb (b / 32 % 2) 1) (f .«svc_info_change»)
 
-  pub start-differs : not sameStart ≡ true → false ≡ sameFlags l f
+  pub start-differs : not sameStart ≡ true → false ≡ sameFlags (listWith b []) f
   unfolding sameFlags
   start-differs a = simp (not-true sameStart a)
 
   module _ (start : not sameStart ≡ false) where
-    pub change-differs : not sameChange ≡ true → false ≡ sameFlags l f
+    pub change-differs : not sameChange ≡ true → false ≡ sameFlags (listWith b []) f
     unfolding sameFlags
     change-differs a = simp (not-false sameStart start, not-true sameChange a)
 
-    pub complete-decides : not sameChange ≡ false → Bool·beq (l .complete) (f .«svc_info_complete») ≡ sameFlags l f
+    pub complete-decides : not sameChange ≡ false → Bool·beq (eqb (b / 16 % 2) 1) (f .«svc_info_complete») ≡ sameFlags (listWith b []) f
     unfolding sameFlags
     complete-decides a = simp (not-false sameStart start, not-false sameChange a)
+
+-- byte 1 of a section in a packet, and the count that it has
+pub byte-one : (p : List ℕ) (i : ℕ) → byte (svcInfoBytes p i) 1 ≡ byte p (i + 1)
+byte-one p i = byte-of-part p i (svcInfoSize p i) 1 (omega arith)
+
+pub count-at : (p : List ℕ) (i : ℕ) → countOf (svcInfoBytes p i) ≡ under x0F (byte p (i + 1))
+count-at p i = ap (under x0F) (byte-one p i)
 
 module _ (p : List ℕ) (f : Flags) (i : ℕ) where
   -- the section's size, as the code has it
@@ -69,104 +74,66 @@ module _ (p : List ℕ) (f : Flags) (i : ℕ) where
   abbrev flagsCheck : Check
   flagsCheck = check (sameFlags (listOf bytes) f) ServiceFlagsMismatched
 
-  pub not-there : f .«svc_info» ≡ false → noSvcInfo (done 0) ≡ svcInfoRead p f i
-  unfolding svcInfoRead
+  pub not-there : f .«svc_info» ≡ false → alone (done 0) ≡ svcInfoTested p f i
+  unfolding svcInfoTested
   not-there a = simp a
 
   module _ (there : f .«svc_info» ≡ true) where
-    pub too-short : length p < i + 2 → noSvcInfo (refused (LengthMismatch (i + 2) (length p))) ≡ svcInfoRead p f i
-    unfolding svcInfoRead
+    pub too-short : length p < i + 2 → alone (refused (LengthMismatch (i + 2) (length p))) ≡ svcInfoTested p f i
+    unfolding svcInfoTested
     too-short a = simp (there, lt-leb _ _ a)
 
     module _ (long : i + 2 ≤ length p) where
-      pub other-id : (byte p i ≡ 0x73 → ⊥) → noSvcInfo (refused WrongMagic) ≡ svcInfoRead p f i
-      unfolding svcInfoRead
+      pub other-id : (byte p i ≡ 0x73 → ⊥) → alone (refused WrongMagic) ≡ svcInfoTested p f i
+      unfolding svcInfoTested
       other-id a = simp (there, le-leb _ _ long, ne-eqb _ _ a)
 
       module _ (id : byte p i ≡ 0x73) where
-        pub entries-cut : length p < i + size → noSvcInfo (refused (LengthMismatch (i + size) (length p))) ≡ svcInfoRead p f i
-        unfolding svcInfoRead
+        pub entries-cut : length p < i + size → alone (refused (LengthMismatch (i + size) (length p))) ≡ svcInfoTested p f i
+        unfolding svcInfoTested
         entries-cut a = simp (there, le-leb _ _ long, eq-eqb _ _ id, as-count, lt-leb _ _ a)
 
         module _ (fits : i + size ≤ length p) where
           -- behind the section's own rules stands the test of the flags
-          as-parts : shown (andThen (verdict (sectionChecks bytes)) (verdict (flagsCheck ∷ []))) size (listOf bytes) ≡ svcInfoRead p f i
-          unfolding svcInfoRead
+          as-parts : tested (andThen (verdict (sectionChecks bytes)) (verdict (flagsCheck ∷ []))) size ≡ svcInfoTested p f i
+          unfolding svcInfoTested
           as-parts =
-              ap (λ (v : Verdict). shown v size (listOf bytes)) (sym (verdict-append (sectionChecks bytes) (flagsCheck ∷ [])))
+              ap (λ (v : Verdict). tested v size) (sym (verdict-append (sectionChecks bytes) (flagsCheck ∷ [])))
               ∙ simp (there, le-leb _ _ long, eq-eqb _ _ id, as-count, as-size, le-leb _ _ fits)
 
-          pub section-refused : eqb (sectionRead bytes .answer .number) 0 ≡ false → noSvcInfo (sectionRead bytes .answer) ≡ svcInfoRead p f i
-          unfolding sectionRead
+          pub section-refused : eqb (sectionAnswer bytes .number) 0 ≡ false → alone (sectionAnswer bytes) ≡ svcInfoTested p f i
+          unfolding sectionAnswer
           section-refused h =
-              refused-shows section (verdict (sectionChecks bytes)) 0 size (listPresent (listOf bytes)) listAbsent h
-              ∙ ap (λ (v : Verdict). shown v size (listOf bytes)) (sym (refused-stays (verdict (sectionChecks bytes)) (verdict (flagsCheck ∷ [])) 0 h))
+              refused-shows measured (verdict (sectionChecks bytes)) 0 0 size 0 h
+              ∙ ap (λ (v : Verdict). tested v size) (sym (refused-stays (verdict (sectionChecks bytes)) (verdict (flagsCheck ∷ [])) 0 h))
               ∙ as-parts
 
-          module _ (kept : eqb (sectionRead bytes .answer .number) 0 ≡ true) where
-            alone : verdict (sectionChecks bytes) ≡ clear
-            unfolding sectionRead
-            alone = done-clear _ 0 kept
+          -- byte 1 of the section, as the code has it, has the list's flags
+          the-flags : sameFlags (listWith (byte p (i + 1)) []) f ≡ sameFlags (listOf bytes) f
+          unfolding sameFlags listOf
+          the-flags =
+              let second : byte bytes 1 ≡ byte p (i + 1) = byte-of-part p i (i + size - i) 1 (omega arith) in
+              rw second
 
-            the-list : sectionRead bytes .list ≡ listOf bytes
-            unfolding sectionRead
-            the-list = done-value (verdict (sectionChecks bytes)) 0 (listOf bytes) empty kept
+          module _ (kept : eqb (sectionAnswer bytes .number) 0 ≡ true) where
+            own-clear : verdict (sectionChecks bytes) ≡ clear
+            unfolding sectionAnswer
+            own-clear = done-clear _ 0 kept
 
-            pub other-flags : sameFlags (sectionRead bytes .list) f ≡ false → noSvcInfo (refused ServiceFlagsMismatched) ≡ svcInfoRead p f i
+            pub other-flags : sameFlags (listWith (byte p (i + 1)) []) f ≡ false → alone (refused ServiceFlagsMismatched) ≡ svcInfoTested p f i
             other-flags h =
-                let differ : sameFlags (listOf bytes) f ≡ false = rw the-list at h in
-                simp (alone, differ) at as-parts
+                let differ : sameFlags (listOf bytes) f ≡ false = sym the-flags ∙ h in
+                simp (own-clear, differ) at as-parts
 
-            pub svc-info-whole : sameFlags (sectionRead bytes .list) f ≡ true
-                → section (done size) (listPresent (sectionRead bytes .list)) ≡ svcInfoRead p f i
+            pub svc-info-whole : sameFlags (listWith (byte p (i + 1)) []) f ≡ true → sized size ≡ svcInfoTested p f i
             svc-info-whole h =
-                let agree : sameFlags (listOf bytes) f ≡ true = rw the-list at h in
-                rw the-list (simp (alone, agree) at as-parts)
+                let agree : sameFlags (listOf bytes) f ≡ true = sym the-flags ∙ h in
+                simp (own-clear, agree) at as-parts
 
--- the bytes of a span hold the section's list, and those of none the empty one
-no-bytes : listOf [] ≡ empty
-unfolding listOf filled
-no-bytes = refl
-
-span-shows : (p : List ℕ) (i size : ℕ) (there : Bool)
-    → _≡_ {A = MaybeServiceInfo}
-    (record {
-      present = spanOf there i size .present;
-      «service_info» = listOf (part (spanOf there i size .from) (spanOf there i size .to - spanOf there i size .from) p);
-    })
-    (cond there (listPresent (listOf (part i size p))) listAbsent)
-span-shows p i size true =
-    let n : i + size - i ≡ size = omega arith in
-    rw n
-span-shows p i size false = rw no-bytes
-
-module _ (p : List ℕ) (f : Flags) (i : ℕ) where
-  abbrev spanned : Span
-  spanned = spanOf (svcInfoThere p f i) i (svcInfoSize p i)
-
-  pub span-shown : _≡_ {A = MaybeServiceInfo}
-      (record { present = spanned .present; «service_info» = listOf (part (spanned .from) (spanned .to - spanned .from) p) }) (svcInfoShown p f i)
-  unfolding svcInfoShown
-  span-shown = span-shows p i (svcInfoSize p i) (svcInfoThere p f i)
-
-  pub no-flag : f .«svc_info» ≡ false → spanOf false i (svcInfoSize p i) ≡ spanned
-  no-flag h = simp h
-
-  pub cut-off : f .«svc_info» ≡ true → length p < i + size p f i → spanOf false i (svcInfoSize p i) ≡ spanned
-  cut-off h a = simp (h, as-count p f i, lt-leb _ _ a)
-
-  pub all-there : f .«svc_info» ≡ true → i + size p f i ≤ length p → spanOf true i (size p f i) ≡ spanned
-  all-there h a = simp (h, as-count p f i, le-leb _ _ a)
-
-  -- an accepted section is there: its own test of the packet's size says so
-  fits-where-clear : (on : Bool) → f .«svc_info» ≡ on → verdict (when on (svcInfoChecks p f i)) ≡ clear → svcInfoShown p f i ≡ svcInfoOf p f i
-  unfolding svcInfoShown
-  fits-where-clear true h v =
-      let cs : List Check = sectionChecks (svcInfoBytes p i) ++ check (sameFlags (listOf (svcInfoBytes p i)) f) ServiceFlagsMismatched ∷ [] in
+  -- an accepted section has all its bytes
+  pub section-there : verdict (svcInfoChecks p f i) ≡ clear → i + svcInfoSize p i ≤ length p
+  section-there h =
+      let own : List Check = sectionChecks (svcInfoBytes p i) ++ check (sameFlags (listOf (svcInfoBytes p i)) f) ServiceFlagsMismatched ∷ [] in
       let long : Check = sizeCheck p (i + svcInfoSize p i) in
       let id : Check = check (eqb (byte p i) servicesId) WrongMagic in
-      simp (h, kept-first long cs (kept-rest id (long ∷ cs) (kept-rest (sizeCheck p (i + 2)) (id ∷ long ∷ cs) v)))
-  fits-where-clear false h v = simp h
-
-  pub shown-where-clear : verdict (when (f .«svc_info») (svcInfoChecks p f i)) ≡ clear → svcInfoShown p f i ≡ svcInfoOf p f i
-  shown-where-clear v = fits-where-clear (f .«svc_info») refl v
+      leb-true _ _ (kept-first long own (kept-rest id (long ∷ own) (kept-rest (sizeCheck p (i + 2)) (id ∷ long ∷ own) h)))

@@ -1,1 +1,2 @@
 pub mod SvcInfo
+pub mod Code

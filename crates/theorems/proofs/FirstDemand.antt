@@ -3,108 +3,97 @@
 use mathlib.Core.Bool.{Bool, true, false, _||_}
 use mathlib.Core.List.{List, [], _∷_, _++_}
 use mathlib.Core.Path.{_≡_, refl, sym}
-use Prim.Native.Nat.{ℕ}
-use lib.Dec.{eqb, ltb}
+use Prim.Native.Nat.{ℕ, _-_}
+use lib.Dec.{eqb, leb, ltb}
 use lib.ListN.{length}
-use Rattle.basis.proofs.Verdicts.{refused-shows}
-use Rattle.basis.specs.Answer as Table
-use Rattle.basis.specs.Check.{Verdict, answer, broken, check, clear, sizeWhen, verdict, when}
+use Rattle.basis.proofs.Verdicts.{refused-not-done, refused-shows}
+use Rattle.basis.specs.Check.{Check, Verdict, answer, broken, clear, roomCheck, verdict}
 use Rattle.basis.specs.Bytes.{over}
+use Rattle.basis.specs.Code.{fitting, put, putAnswer}
 use Rattle.times.specs.Time as Time
 use Rattle.entries.specs.Entry as Entry
-use Rattle.entries.specs.Writing.{entryBytes, entryCheck, entryWritten, roomCheck, written}
+use Rattle.entries.specs.Writing.{entryBytes, entryCheck, entryWritten, written}
 use Rattle.services.specs.Section as Section
-use Rattle.svc_entries.specs.Entries.{entriesRead, places, sectionChecks, sectionLength}
-use Rattle.services.specs.ServiceList.{countCheck}
-use Rattle.services.specs.Writing.{sectionBytes, sectionWritten, valueAnswer, valueChecks}
+use Rattle.svc_entries.specs.Entries.{places, sectionLength}
+use Rattle.svc_entries.specs.Code.{entriesRead, sectionAnswer}
+use Rattle.services.specs.Writing.{sectionBytes, sectionWritten, valueChecks}
+use Rattle.services.specs.Code.{valueAnswer}
 use Rattle.reader.proofs.PacketShown.{checks-answer}
 use Rattle.reader.proofs.Refusals as Refusals
-use Rattle.cc_section.specs.CcData as CcData
-use Rattle.header.specs.Header as Header
-use Rattle.time_section.specs.TimeCode as TimeCode
-use Rattle.footer.specs.Footer as Footer
-use Rattle.svc_section.specs.SvcInfo as SvcInfo
-use Rattle.checked.specs.Packet.{captionLength, packetChecks}
-use Rattle.reader.specs.Shown.{packetRead}
-use Rattle.reader.specs.Reader.{read, readChecks}
+use Rattle.cc_section.specs.Code as CcSectionCode
+use Rattle.header.specs.Code as HeaderCode
+use Rattle.time_section.specs.Code as TimeSectionCode
+use Rattle.footer.specs.Code as FooterCode
+use Rattle.svc_section.specs.Code as SvcSectionCode
+use Rattle.checked.specs.Packet.{captionLength}
+use Rattle.reader.specs.Code.{packetRead}
+use Rattle.reader.specs.Reader.{read}
 use Rattle.packing.proofs.PacketWrites as PacketWrites
 use Rattle.packet_checks.specs.Checks as Checks
+use Rattle.packet_checks.specs.Code as PacketChecksCode
 use Rattle.packing.specs.Writing as Writing
-use Rattle.writer.specs.Writer.{setChecks, setServiceInfo}
-use Rattle.theorems.specs.FirstDemand.{FirstDemand, inTable, refuses}
+use Rattle.writer.specs.Writer.{setServiceInfo}
+use Rattle.theorems.proofs.Proper.{Proper, captions-proper, closing-proper, entry-proper, entry-write-proper, fine, header-proper, none, overflow-proper, packet-proper, packet-write-proper, read-proper, room, section-proper, services-proper, set-proper, shorter-smaller, time-code-proper, time-proper, time-write-proper, value-proper, where-there, with-room}
+use Rattle.theorems.specs.FirstDemand.{FirstDemand, differ, inTable, never, refuses, smaller}
 use Rattle.basis.specs.declared.answer.Answer.{Answer}
 use Rattle.entries.specs.declared.entry.ServiceEntry.{ServiceEntry}
 use Rattle.services.specs.declared.list.ServiceInfo.{ServiceInfo}
-use Rattle.values.specs.declared.framerate.Framerate.{Framerate}
-use Rattle.writer.specs.declared.writer.CDPWriter.{CDPWriter}
 
-in-table : (measured : Bool) (v : Verdict) (length : ℕ) → (measured || eqb length 0) ≡ true → inTable measured (answer v length) ≡ true
-in-table measured clear length h = rw h
-in-table measured (broken (Table.LengthMismatch expected actual)) length h = refl
-in-table measured (broken Table.WrongMagic) length h = refl
-in-table measured (broken Table.UnknownFramerate) length h = refl
-in-table measured (broken Table.InvalidFixedBits) length h = refl
-in-table measured (broken Table.ChecksumFailed) length h = refl
-in-table measured (broken Table.SequenceCountMismatch) length h = refl
-in-table measured (broken Table.ServiceNumberMismatch) length h = refl
-in-table measured (broken Table.InvalidServiceNumber) length h = refl
-in-table measured (broken Table.ServiceFlagsMismatched) length h = refl
-in-table measured (broken Table.WouldOverflow) length h = refl
-in-table measured (broken (Table.BufferTooShort needed given)) length h = refl
-in-table measured (broken Table.NotWritable) length h = refl
-in-table measured (broken Table.WrongCaptionRun) length h = refl
+-- an answer of checks that are refused as the table has it: of a call that gives a length with 0, and of one that gives 0
+in-table : (measured : Bool) (beside : ℕ → ℕ → Bool) (v : Verdict) (length : ℕ) → fine beside v ≡ true → (measured || eqb length 0) ≡ true
+    → inTable measured beside (answer v length) ≡ true
+in-table measured beside clear length f h = rw h
+in-table measured beside (broken why) length f h = rw (refused-not-done why) f
 
--- a call that gives a length with 0, and one that gives 0
-with-length : (v : Verdict) (length : ℕ) → inTable true (answer v length) ≡ true
-with-length v length = in-table true v length refl
+with-length : (beside : ℕ → ℕ → Bool) {cs : List Check} → Proper beside cs → (length : ℕ) → inTable true beside (answer (verdict cs) length) ≡ true
+with-length beside {cs} proper length = in-table true beside (verdict cs) length (proper .is-fine) refl
 
-without : (v : Verdict) → inTable false (answer v 0) ≡ true
-without v = in-table false v 0 refl
+without : (beside : ℕ → ℕ → Bool) {cs : List Check} → Proper beside cs → inTable false beside (answer (verdict cs) 0) ≡ true
+without beside {cs} proper = in-table false beside (verdict cs) 0 (proper .is-fine) refl
 
 -- a writer that is refused leaves the buffer as it was
 left : (v : Verdict) (bytes buffer : List ℕ) → refuses (written v bytes buffer .answer) → written v bytes buffer .buffer ≡ buffer
 left v bytes buffer h = sym (refused-shows (λ (a : Answer) (b : List ℕ). b) v (length bytes) 0 (over 0 bytes buffer) buffer h)
 
--- the writers' verdicts, room among them
-abbrev packetVerdict : CDPWriter → Framerate → List ℕ → List ℕ → Verdict
-packetVerdict w rate captions buffer =
-    verdict (Checks.packetChecks rate (w .«time_code») (w .«service_info») (length captions) ++ roomCheck (Checks.packetLength (w .«time_code») (w .«service_info») (length captions)) buffer ∷ [])
-
+-- the verdicts of the two writers that write no packet, room among them
 abbrev sectionVerdict : ServiceInfo → List ℕ → Verdict
-sectionVerdict l buffer = verdict (valueChecks l ++ roomCheck (sectionLength (l .count)) buffer ∷ [])
+sectionVerdict l buffer = verdict (valueChecks l ++ roomCheck (sectionLength (l .count)) (length buffer) ∷ [])
 
 abbrev entryVerdict : ServiceEntry → List ℕ → Verdict
-entryVerdict e buffer = verdict (entryCheck e ∷ roomCheck 6 buffer ∷ [])
+entryVerdict e buffer = verdict (entryCheck e ∷ roomCheck 6 (length buffer) ∷ [])
 
 pub first-demand : FirstDemand
-unfolding read packetRead Header.headerRead TimeCode.timeCodeRead CcData.ccDataRead SvcInfo.svcInfoRead Footer.closingRead entriesRead Section.sectionRead Entry.entryRead Time.timeRead Time.timeWritten Writing.packetWritten sectionWritten entryWritten valueAnswer setServiceInfo
+unfolding read packetRead HeaderCode.headerRead TimeSectionCode.timeCodeRead CcSectionCode.ccDataTested SvcSectionCode.svcInfoTested FooterCode.closingRead sectionAnswer entriesRead Section.sectionRead Entry.entryRead Time.timeRead Time.timeWritten Writing.packetWritten sectionWritten entryWritten valueAnswer setServiceInfo PacketChecksCode.packetTested putAnswer put
 first-demand =
     record {
-      packetRead = λ s p room. with-length (verdict (readChecks p room)) (captionLength p);
-      sectionRead = λ d. without (verdict (sectionChecks d));
-      entryRead = λ bytes. without (verdict (Entry.entryChecks bytes));
-      timeRead = λ hours minutes seconds frames. without (verdict (Time.timeChecks hours minutes seconds frames));
-      headerRead = λ p. without (verdict (Header.headerChecks p));
-      timeCodeRead = λ p present i. with-length (verdict (when present (TimeCode.timeCodeChecks p i))) (sizeWhen present Time.timeSize);
-      captionsRead = λ p present i. with-length (verdict (when present (CcData.ccDataChecks p i))) (sizeWhen present (CcData.ccDataSize p i));
-      servicesRead = λ p f i. with-length (verdict (when (f .«svc_info») (SvcInfo.svcInfoChecks p f i))) (sizeWhen (f .«svc_info») (SvcInfo.svcInfoSize p i));
-      closingRead = λ p sequence i. without (verdict (Footer.closingChecks p sequence i));
-      entriesRead = λ d. without (verdict (sectionChecks d));
-      checkedRead = λ p. rw (checks-answer p) (with-length (verdict (packetChecks p)) (captionLength p));
-      statelessRead = λ p. with-length (verdict (packetChecks p)) (captionLength p);
-      packetAnswered = λ w rate captions buffer. with-length (packetVerdict w rate captions buffer) (Checks.packetLength (w .«time_code») (w .«service_info») (length captions));
-      packetTested = λ rate time services run. with-length (verdict (Checks.packetChecks rate time services run)) (Checks.packetLength time services run);
-      sectionAnswered = λ l buffer. with-length (sectionVerdict l buffer) (length (sectionBytes l));
-      entryAnswered = λ e buffer. with-length (entryVerdict e buffer) 6;
-      timeAnswered = λ t. without (verdict (Time.timeWriteChecks t));
-      listAdded = λ l e. without (verdict (check (ltb (l .count) places) Table.WouldOverflow ∷ []));
-      listMeasured = λ l. with-length (verdict (countCheck l ∷ [])) (sectionLength (l .count));
-      listTested = λ l. without (verdict (valueChecks l));
-      listSet = λ w services. without (verdict (setChecks services));
+      packetRead = λ s p lent. with-length differ (read-proper p lent) (captionLength p);
+      sectionRead = λ d. without differ (section-proper d);
+      entryRead = λ bytes. without never (entry-proper bytes);
+      timeRead = λ hours minutes seconds frames. without never (time-proper hours minutes seconds frames);
+      headerRead = λ p. without differ (header-proper p);
+      timeCodeRead = λ p present i. without smaller (where-there present (time-code-proper shorter-smaller p i));
+      captionsTested = λ p present i. without smaller (where-there present (captions-proper shorter-smaller p i));
+      servicesTested = λ p f i. without smaller (where-there (f .«svc_info») (services-proper shorter-smaller p f i));
+      closingRead = λ p sequence i. without smaller (closing-proper shorter-smaller p sequence i);
+      sectionTested = λ d. without differ (section-proper d);
+      entriesRead = λ d. without differ (section-proper d);
+      checkedRead = λ p. rw (checks-answer p) (with-length differ (packet-proper p) (captionLength p));
+      statelessRead = λ p. with-length differ (packet-proper p) (captionLength p);
+      packetAnswered = λ w rate captions buffer. with-length never (with-room (packet-write-proper rate (w .«time_code») (w .«service_info») (length captions)) (Checks.packetLength (w .«time_code») (w .«service_info») (length captions)) buffer) (Checks.packetLength (w .«time_code») (w .«service_info») (length captions));
+      packetTested = λ rate time services run. without never (packet-write-proper rate time services run);
+      sectionAnswered = λ l buffer. with-length never (with-room (value-proper l) (sectionLength (l .count)) buffer) (length (sectionBytes l));
+      entryAnswered = λ e buffer. with-length never (with-room (entry-write-proper e) 6 buffer) 6;
+      timeAnswered = λ t. without never (time-write-proper t);
+      listAdded = λ l e. without never (overflow-proper (ltb (l .count) places));
+      listMeasured = λ l. with-length never (overflow-proper (leb (l .count) places)) (sectionLength (l .count));
+      listTested = λ l. without never (value-proper l);
+      listSet = λ w services. without never (set-proper services);
+      bytesPut = λ at bytes buffer. without never (room (length bytes) (length buffer - at) none);
       readerWrites = Refusals.refusal-writes-nothing;
       packetWrites = λ w rate captions buffer. PacketWrites.refusal-writes-nothing rate (w .sequence) (w .«time_code») (w .«service_info») captions buffer;
       sectionWrites = λ l buffer. left (sectionVerdict l buffer) (sectionBytes l) buffer;
       entryWrites = λ e buffer. left (entryVerdict e buffer) (entryBytes e) buffer;
+      putWrites = λ at bytes buffer h. sym (refused-shows (λ (a : Answer) (b : List ℕ). b) (fitting at bytes buffer) 0 0 (over at bytes buffer) buffer h);
       readerClears = Refusals.refusal-clears;
       readerStays = Refusals.eleven-changes-nothing;
     }

@@ -12,7 +12,8 @@ use Rattle.basis.specs.Bytes.{byte}
 use Rattle.basis.specs.Check.{clear, verdict}
 use Rattle.values.specs.Packet.{footerId}
 use Rattle.footer.proofs.ClosingReads.{begins, footer-reached, footer-whole}
-use Rattle.footer.specs.Footer.{checksumOf, closingChecks, closingRead}
+use Rattle.footer.specs.Footer.{checksumOf, closingChecks}
+use Rattle.footer.specs.Code.{closingRead}
 use Rattle.packing.specs.Writing.{footerBytes}
 use Rattle.basis.proofs.Places.{byte-on}
 use Rattle.basis.specs.declared.answer.Answer.{Answer}

@@ -5,4 +5,6 @@ pub mod PartsBack
 pub mod RoundTrip
 pub mod ListBack
 pub mod Cases
+pub mod Proper
 pub mod FirstDemand
+pub mod Refused

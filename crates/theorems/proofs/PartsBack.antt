@@ -14,7 +14,8 @@ use Rattle.services.proofs.SectionWrites.{value-done}
 use Rattle.services.specs.RoundTrip.{Ready, allOfThree, namesFieldTwo}
 use Rattle.svc_entries.specs.Entries.{sectionLength}
 use Rattle.services.specs.ServiceList.{listAbsent, listPresent}
-use Rattle.services.specs.Writing.{counted, sectionBytes, valueAnswer, valueChecks}
+use Rattle.services.specs.Writing.{counted, sectionBytes, valueChecks}
+use Rattle.services.specs.Code.{valueAnswer}
 use Rattle.time_section.specs.TimeCode.{timeCodeChecks, timeCodeOf}
 use Rattle.svc_section.proofs.SvcInfoAlone.{FlagsOf}
 use Rattle.svc_section.specs.SvcInfo.{listWhere, svcInfoChecks, svcInfoSize}
@@ -35,26 +36,25 @@ pub time-here : (p : List ℕ) (i : ℕ) (present : Bool) (t : TimeCode) (rest :
 time-here p i true t rest h right fits = record { right = time-clear p i t rest h right fits; shown = ap timePresent (time-value p i t rest h right) }
 time-here p i false t rest h right fits = record { right = refl; shown = refl }
 
--- the list: what writing asks of it, with languages of three bytes, is what reading it back asks
-ready : (l : ServiceInfo) → verdict (valueChecks l) ≡ clear → allOfThree (counted l) ≡ true → Ready l
+-- the list: what writing asks of it is what reading it back asks
+ready : (l : ServiceInfo) → verdict (valueChecks l) ≡ clear → Ready l
 unfolding valueAnswer
-ready l right languages =
+ready l right =
     let both = value-done l (ap (λ (v : Verdict). eqb (answer v 0 .number) 0) right) in
-    record { count = both .0; languages = languages; numbers = both .1 }
+    record { count = both .0; numbers = both .1 }
 
 pub record ServicesHere (p : List ℕ) (i : ℕ) (f : Flags) (present : Bool) (l : ServiceInfo) : Type 0 where
   pub answered : verdict (when present (svcInfoChecks p f i)) ≡ named (present && namesFieldTwo (counted l))
-  pub shown : listWhere present p i ≡ cond present (listPresent (listBack l)) listAbsent
+  pub shown : (present ≡ true → allOfThree (counted l) ≡ true) → listWhere present p i ≡ cond present (listPresent (listBack l)) listAbsent
   pub size : sizeWhen present (svcInfoSize p i) ≡ sizeWhen present (sectionLength (l .count))
 
 pub services-here : (p : List ℕ) (i : ℕ) (f : Flags) (present : Bool) (l : ServiceInfo) (rest : List ℕ) → (present ≡ true → FlagsOf f l)
-    → drop i p ≡ cond present (sectionBytes l) [] ++ rest → verdict (when present (valueChecks l)) ≡ clear
-    → (present ≡ true → allOfThree (counted l) ≡ true) → i + sizeWhen present (sectionLength (l .count)) ≤ length p → ServicesHere p i f present l
-services-here p i f true l rest flags h right languages fits =
-    let r : Ready l = ready l right (languages refl) in
+    → drop i p ≡ cond present (sectionBytes l) [] ++ rest → verdict (when present (valueChecks l)) ≡ clear → i + sizeWhen present (sectionLength (l .count)) ≤ length p → ServicesHere p i f present l
+services-here p i f true l rest flags h right fits =
+    let r : Ready l = ready l right in
     record {
       answered = services-verdict p i l rest h r f (flags refl) fits;
-      shown = ap listPresent (list-value p i l rest h r);
+      shown = λ languages. ap listPresent (list-value p i l rest h r (languages refl));
       size = section-size p i l rest h r;
     }
-services-here p i f false l rest flags h right languages fits = record { answered = refl; shown = refl; size = refl }
+services-here p i f false l rest flags h right fits = record { answered = refl; shown = λ languages. refl; size = refl }

@@ -7,7 +7,7 @@ use Prim.Native.Nat.{ℕ, _+_, _≤_}
 use native.Mathlib.Omega.{arith}
 use borrow.Author.Tests.{le-leb}
 use lib.Dec.{eqb}
-use lib.ListN.{drop, length, take}
+use lib.ListN.{drop, length, length-take, take}
 use Rattle.basis.proofs.Verdicts.{and-clear}
 use Rattle.basis.specs.Answer.{ServiceNumberMismatch, refused}
 use Rattle.basis.specs.Bytes.{over}
@@ -17,8 +17,6 @@ use Rattle.values.specs.Rate.{present}
 use Rattle.entries.proofs.EntryWrites.{first-bytes}
 use Rattle.entries.specs.Writing.{Written}
 use Rattle.services.proofs.SectionBack.{named}
-use Rattle.services.specs.RoundTrip.{allOfThree}
-use Rattle.services.specs.Writing.{counted}
 use Rattle.cc_section.specs.CcData.{ccDataChecks, ccDataSize, handedOut}
 use Rattle.header.specs.Header.{flagsIn, headerChecks, rateOf, sequenceIn}
 use Rattle.time_section.specs.TimeCode.{timeCodeChecks, timeCodeOf}
@@ -41,7 +39,7 @@ use Rattle.theorems.proofs.HeaderBack.{flags-back, header-clear, rate-b
 use Rattle.theorems.proofs.PartsBack.{ServicesHere, TimeHere, services-here, time-here}
 use Rattle.basis.proofs.Places.{further-on}
 use Rattle.theorems.proofs.SectionsBack.{captions-clear, captions-value, size-is}
-use Rattle.theorems.specs.RoundTrip.{ReadBack, captionsBack, fieldTwo, servicesBack, shownBack, writtenPacket}
+use Rattle.theorems.specs.RoundTrip.{Languages, ReadBack, captionsBack, fieldTwo, servicesBack, shownBack, writtenPacket}
 use Rattle.reader.specs.declared.parser.CDPParser.{CDPParser}
 use Rattle.services.specs.declared.list.ServiceInfo.{ServiceInfo}
 use Rattle.values.specs.declared.flags.Flags.{Flags}
@@ -55,10 +53,9 @@ six a b c d e f =
     ∙ append-assoc (a ++ b) c (d ++ (e ++ f))
     ∙ append-assoc a b (c ++ (d ++ (e ++ f)))
 
--- a packet that can be written, in which every language of a held list has its three bytes, as its type says
+-- a packet that can be written
 module _ (w : CDPWriter) (rate : Framerate) (captions : List ℕ)
-    (right : verdict (Checks.packetChecks rate (w .«time_code») (w .«service_info») (length captions)) ≡ clear)
-    (languages : w .«service_info» .present ≡ true → allOfThree (counted (w .«service_info» .«service_info»)) ≡ true) where
+    (right : verdict (Checks.packetChecks rate (w .«time_code») (w .«service_info») (length captions)) ≡ clear) where
   abbrev run : ℕ
   run = length captions
 
@@ -163,13 +160,13 @@ module _ (w : CDPWriter) (rate : Framerate) (captions : List ℕ)
 
   services : ServicesHere p servicesFrom (flagsOf (w .«time_code») (w .«service_info»)) (w .«service_info» .present) list
   services =
-      services-here p servicesFrom (flagsOf (w .«time_code») (w .«service_info»)) (w .«service_info» .present) list fourth (λ (on : w .«service_info» .present ≡ true). record { start = rw on; change = rw on; complete = rw on }) at-services (holds .served) languages (omega (arith, long))
+      services-here p servicesFrom (flagsOf (w .«time_code») (w .«service_info»)) (w .«service_info» .present) list fourth (λ (on : w .«service_info» .present ≡ true). record { start = rw on; change = rw on; complete = rw on }) at-services (holds .served) (omega (arith, long))
 
   services-right : verdict (when (flagsIn p .«svc_info») (svcInfoChecks p (flagsIn p) (svcInfoAt p))) ≡ named (fieldTwo (w .«service_info»))
   services-right = ap₂ (λ (f : Flags) (i : ℕ). verdict (when (f .«svc_info») (svcInfoChecks p f i))) flags services-at ∙ services .answered
 
-  services-shown : svcInfoOf p (flagsIn p) (svcInfoAt p) ≡ servicesBack (w .«service_info»)
-  services-shown = ap₂ (λ (f : Flags) (i : ℕ). svcInfoOf p f i) flags services-at ∙ services .shown
+  services-shown : Languages w → svcInfoOf p (flagsIn p) (svcInfoAt p) ≡ servicesBack (w .«service_info»)
+  services-shown languages = ap₂ (λ (f : Flags) (i : ℕ). svcInfoOf p f i) flags services-at ∙ services .shown languages
 
   -- the footer
   footer-at : closingAt p ≡ footerFrom
@@ -192,20 +189,20 @@ module _ (w : CDPWriter) (rate : Framerate) (captions : List ℕ)
       ∙ rw (header-right, ap (λ (f : Flags). verdict (when (f .«time_code») (timeCodeChecks p 7))) flags ∙ time .right, captions-right, services-right, footer-right)
       (and-clear (named (fieldTwo (w .«service_info»))))
 
-  shown : shownBy p ≡ shownBack w rate
+  shown : Languages w → shownBy p ≡ shownBack w rate
   unfolding shownBy
-  shown =
+  shown languages =
       let timed : timeCodeOf p (flagsIn p .«time_code») 7 ≡ heldTime (w .«time_code») = ap (λ (f : Flags). timeCodeOf p (f .«time_code») 7) flags ∙ time .shown in
-      rw (rated, timed, sequence, services-shown)
+      rw (rated, timed, sequence, services-shown languages)
 
   module _ (s : CDPParser) (lent : List ℕ) (room : 95 ≤ length lent) where
     got : read s p (length lent)
         ≡ record {
           answer = answer (named (fieldTwo (w .«service_info»))) (2 + run);
-          parser = ifClear (named (fieldTwo (w .«service_info»))) (shownBack w rate) (cleared s);
+          parser = ifClear (named (fieldTwo (w .«service_info»))) (shownBy p) (cleared s);
         }
     unfolding read
-    got = simp (le-leb 95 (length lent) room, packet-verdict, captions-long, shown)
+    got = simp (le-leb 95 (length lent) room, packet-verdict, captions-long)
 
     after : bufferAfter p lent ≡ ifClear (named (fieldTwo (w .«service_info»))) (over 0 (captionsBack captions) lent) lent
     unfolding bufferAfter
@@ -218,25 +215,41 @@ module _ (w : CDPWriter) (rate : Framerate) (captions buffer : List ℕ) (done-s
       ap (λ (r : Written). take (r .answer .first) (r .buffer)) (packet-done rate (w .sequence) (w .«time_code») (w .«service_info») captions buffer done-so .1)
       ∙ first-bytes (packetBytes rate (w .sequence) (w .«time_code») (w .«service_info») captions) buffer
 
-  module _ (languages : w .«service_info» .present ≡ true → allOfThree (counted (w .«service_info» .«service_info»)) ≡ true)
-      (s : CDPParser) (lent : List ℕ) (room : 95 ≤ length lent) where
+  -- as many bytes as the answer says are there
+  pub written-fits : packetWritten w rate captions buffer .answer .first ≤ length (packetWritten w rate captions buffer .buffer)
+  written-fits =
+      let bytes : List ℕ = packetBytes rate (w .sequence) (w .«time_code») (w .«service_info») captions in
+      let first : packetWritten w rate captions buffer .answer .first ≡ length bytes =
+      ap (λ (r : Written). r .answer .first) (packet-done rate (w .sequence) (w .«time_code») (w .«service_info») captions buffer done-so .1) in
+      omega (arith, first, simp length-take at (ap length written-is))
+
+  right-so : verdict (Checks.packetChecks rate (w .«time_code») (w .«service_info») (length captions)) ≡ clear
+  right-so = packet-done rate (w .sequence) (w .«time_code») (w .«service_info») captions buffer done-so .0
+
+  module _ (s : CDPParser) (lent : List ℕ) (room : 95 ≤ length lent) where
     abbrev packet : List ℕ
     packet = writtenPacket w rate captions buffer
 
     reads : read s packet (length lent)
         ≡ record {
           answer = answer (named (fieldTwo (w .«service_info»))) (2 + length captions);
-          parser = ifClear (named (fieldTwo (w .«service_info»))) (shownBack w rate) (cleared s);
+          parser = ifClear (named (fieldTwo (w .«service_info»))) (shownBy packet) (cleared s);
         }
-    reads = rw written-is (got w rate captions (packet-done rate (w .sequence) (w .«time_code») (w .«service_info») captions buffer done-so .0) languages s lent room)
+    reads = rw written-is (got w rate captions right-so s lent room)
 
     leaves : bufferAfter packet lent ≡ ifClear (named (fieldTwo (w .«service_info»))) (over 0 (captionsBack captions) lent) lent
-    leaves = rw written-is (after w rate captions (packet-done rate (w .sequence) (w .«time_code») (w .«service_info») captions buffer done-so .0) languages s lent room)
+    leaves = rw written-is (after w rate captions right-so s lent room)
 
     -- Writing was answered 0, and no counted entry of a held list names field 2: reading what was written, on any state and
-    -- with any caption buffer of at least 95 bytes, answers 0 and gives the values back.
-    pub round-trip : fieldTwo (w .«service_info») ≡ false → ReadBack w rate captions lent (read s packet (length lent)) (bufferAfter packet lent)
-    round-trip none = record { read = reads ∙ rw none; handed = leaves ∙ rw none }
+    -- with any caption buffer of at least 95 bytes, answers 0 and gives the values back. Crate `round_trip` has the same with
+    -- nothing asked of the languages.
+    pub round-trip : Languages w → fieldTwo (w .«service_info») ≡ false
+        → ReadBack w rate captions lent (read s packet (length lent)) (bufferAfter packet lent)
+    round-trip languages none =
+        record {
+          read = reads ∙ rw (none, ap shownBy written-is ∙ shown w rate captions right-so languages);
+          handed = leaves ∙ rw none;
+        }
 
     -- Where a counted entry of a held list names field 2, reading is answered 7, and refuses as it refuses any packet.
     pub field-two-answered-7 : fieldTwo (w .«service_info») ≡ true

@@ -1,5 +1,6 @@
 -- Time code, captions and services read back from the place where they stand.
 -- Assumes nothing.
+use mathlib.Core.Bool.{true}
 use mathlib.Core.List.{List, [], _∷_, _++_}
 use mathlib.Core.Path.{_≡_, _∙_, sym, refl, ap, ap₂}
 use Prim.Native.Nat.{ℕ, _+_, _*_, _/_, _%_, _≤_}
@@ -14,10 +15,11 @@ use Rattle.basis.specs.Answer.{NotWritable}
 use Rattle.basis.specs.Bytes.{byte}
 use Rattle.basis.specs.Check.{Check, check, clear, verdict}
 use Rattle.values.specs.Packet.{captionsId, servicesId, timeCodeId}
-use Rattle.times.specs.Time.{InRange, noTime, timeBytes, timeChecks, timeOf, timeRead, timeWriteChecks}
-use Rattle.services.proofs.SectionBack.{count-back, list-back, named, section-verdict}
+use Rattle.times.specs.Time.{noTime, timeBytes, timeChecks, timeOf, timeRead, timeWriteChecks}
+use Rattle.times.specs.Code.{InRange}
+use Rattle.services.proofs.SectionBack.{byte-back, count-back, list-back, named, section-verdict}
 use Rattle.services.proofs.SectionWrites.{section-length}
-use Rattle.services.specs.RoundTrip.{Ready, namesFieldTwo}
+use Rattle.services.specs.RoundTrip.{Ready, allOfThree, namesFieldTwo}
 use Rattle.svc_entries.specs.Entries.{sectionChecks, sectionLength}
 use Rattle.services.specs.Section.{listOf}
 use Rattle.services.specs.Writing.{counted, sectionByte, sectionBytes}
@@ -127,12 +129,12 @@ module _ (p : List ℕ) (i : ℕ) (l : ServiceInfo) (rest : List ℕ) (h : drop 
   section-bytes : svcInfoBytes p i ≡ sectionBytes l
   section-bytes = part-on p i (sectionBytes l) rest h (svcInfoSize p i) (section-size ∙ sym (section-length l))
 
-  pub list-value : listOf (svcInfoBytes p i) ≡ listBack l
-  list-value = ap listOf section-bytes ∙ list-back l r
+  pub list-value : allOfThree (counted l) ≡ true → listOf (svcInfoBytes p i) ≡ listBack l
+  list-value languages = ap listOf section-bytes ∙ list-back l r languages
 
   -- the header's flags are the list's
   flags-back : (f : Flags) → FlagsOf f l → FlagsOf f (listOf (svcInfoBytes p i))
-  flags-back f h = rw list-value (record { start = h .start; change = h .change; complete = h .complete })
+  flags-back f h = rw (section-bytes, byte-back l r) (record { start = h .start; change = h .change; complete = h .complete })
 
   pub services-verdict : (f : Flags) → FlagsOf f l → i + sectionLength (l .count) ≤ length p
       → verdict (svcInfoChecks p f i) ≡ named (namesFieldTwo (counted l))

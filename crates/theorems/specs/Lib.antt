@@ -1,3 +1,4 @@
 pub mod FirstDemand
+pub mod Refused
 pub mod Cases
 pub mod RoundTrip

@@ -1,5 +1,5 @@
 -- Demand 2's round trip: what was written, and the values that reading it gives back.
-use mathlib.Core.Bool.{Bool, cond, _&&_}
+use mathlib.Core.Bool.{Bool, true, cond, _&&_}
 use mathlib.Core.List.{List, _∷_}
 use mathlib.Core.Path.{_≡_}
 use Prim.Native.Nat.{ℕ, _+_, _/_}
@@ -7,7 +7,7 @@ use lib.ListN.{length, take}
 use Rattle.basis.specs.Answer.{done}
 use Rattle.basis.specs.Bytes.{over}
 use Rattle.values.specs.Rate.{present}
-use Rattle.services.specs.RoundTrip.{namesFieldTwo}
+use Rattle.services.specs.RoundTrip.{allOfThree, namesFieldTwo}
 use Rattle.svc_entries.specs.Entries.{filled}
 use Rattle.services.specs.ServiceList.{list, listAbsent, listPresent}
 use Rattle.services.specs.Writing.{counted}
@@ -28,6 +28,10 @@ writtenPacket w rate captions buffer =
 -- whether a counted entry of a list that is held names field 2
 abbrev pub fieldTwo : MaybeServiceInfo → Bool
 fieldTwo services = services .present && namesFieldTwo (counted (services .«service_info»))
+
+-- every counted language of a list that is held has three bytes, as the type of a language says
+abbrev pub Languages : CDPWriter → Type 0
+Languages w = w .«service_info» .present ≡ true → allOfThree (counted (w .«service_info» .«service_info»)) ≡ true
 
 -- the list's flags, count and counted entries, with the filler in the other places; absent where none is held
 abbrev pub listBack : ServiceInfo → ServiceInfo

@@ -1,24 +1,19 @@
 -- Rule 5: the time code, five bytes from i on.
 use mathlib.Core.Bool.{Bool, cond}
-use mathlib.Core.List.{List, [], _∷_}
+use mathlib.Core.List.{List, _∷_}
 use Prim.Native.Nat.{ℕ, _+_}
 use lib.Dec.{eqb}
 use Rattle.basis.specs.Answer.{WrongMagic}
 use Rattle.basis.specs.Bytes.{byte}
-use Rattle.basis.specs.Check.{Check, check, when, sizeWhen, verdict, answer, ifClear, sizeCheck}
+use Rattle.basis.specs.Check.{Check, check, sizeCheck}
 use Rattle.values.specs.Packet.{timeCodeId}
 use Rattle.times.specs.Time.{timeChecks, timeOf, timePresent, timeAbsent, timeSize}
-use Rattle.time_section.specs.declared.time_code.TimeCodeSection.{TimeCodeSection}
-use Rattle.basis.specs.declared.answer.Answer.{Answer}
 use Rattle.times.specs.declared.time_code.MaybeTimeCode.{MaybeTimeCode}
 use Rattle.times.specs.declared.time_code.TimeCode.{TimeCode}
 
 -- the four bytes behind the id byte, and what is made of them
 abbrev pub ofFour : {A : Type 0} → (ℕ → ℕ → ℕ → ℕ → A) → List ℕ → ℕ → A
 ofFour f p i = f (byte p (i + 1)) (byte p (i + 2)) (byte p (i + 3)) (byte p (i + 4))
-
-abbrev pub fourBehind : List ℕ → ℕ → List ℕ
-fourBehind p i = ofFour (λ (a b c d : ℕ). a ∷ b ∷ c ∷ d ∷ []) p i
 
 -- n is at least i+5; byte i is 71; then the fixed bits of the four bytes behind it
 abbrev pub timeCodeChecks : List ℕ → ℕ → List Check
@@ -34,16 +29,3 @@ timeCodeIn p i = ofFour timeOf p i
 -- absent where the flag is clear
 abbrev pub timeCodeOf : List ℕ → Bool → ℕ → MaybeTimeCode
 timeCodeOf p present i = cond present (timePresent (timeCodeIn p i)) timeAbsent
-
--- what reading the section gives; with 0 goes how far i moves on
-unfoldable pub timeCodeRead : List ℕ → Bool → ℕ → TimeCodeSection
-timeCodeRead p present i =
-    let v = verdict (when present (timeCodeChecks p i)) in
-    record {
-      answer = answer v (sizeWhen present timeSize);
-      «time_code» = ifClear v (timeCodeOf p present i) timeAbsent;
-    }
-
--- a refusal shows no time code, nor does a packet without the section
-abbrev pub noTimeCode : Answer → TimeCodeSection
-noTimeCode a = record { answer = a; «time_code» = timeAbsent }

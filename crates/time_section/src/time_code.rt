@@ -2,16 +2,17 @@
 ghost use mathlib.Core.Path.{_≡_};
 ghost use Prim.Native.Nat.{_+_, _≤_};
 ghost use lib.ListN.{length};
-ghost use Rattle.time_section.specs.TimeCode.{fourBehind, noTimeCode, timeCodeRead};
+ghost use Rattle.time_section.specs.Code.{fourBehind, noTimeCode, timeCodeRead};
 use basis::Answer;
 use times::MaybeTimeCode;
 use times::TimeCode;
 use values::Packet;
 
-// What reading gives: beside a refusal, no time code.
+// What reading gives: beside a refusal, no time code. The size is how far a reader moves on: 0 without a time code.
 pub struct TimeCodeSection {
     pub answer: Answer,
     pub time_code: MaybeTimeCode,
+    pub size: usize,
 }
 
 impl TimeCodeSection {
@@ -24,6 +25,7 @@ impl TimeCodeSection {
         Self {
             answer,
             time_code: MaybeTimeCode::ABSENT,
+            size: 0,
         }
     }
 
@@ -49,11 +51,12 @@ impl TimeCodeSection {
         }
         let time_code = read.time_code;
         Self {
-            answer: Answer::done(Self::SIZE),
+            answer: Answer::done(0),
             time_code: MaybeTimeCode {
                 present: true,
                 time_code,
             },
+            size: Self::SIZE,
         }
     }
 }

@@ -9,7 +9,8 @@ use lib.ListN.{getD}
 use borrow.Author.Tests.{le-leb, lt-leb}
 use Rattle.basis.specs.Answer.{NotWritable, done, refused}
 use Rattle.basis.specs.Mask.{flag, allSet, x80}
-use Rattle.times.specs.Time.{InRange, digits, digitBits, timeBytes, timeRead, timeWritten}
+use Rattle.times.specs.Time.{digits, digitBits, timeBytes, timeRead, timeWritten}
+use Rattle.times.specs.Code.{InRange}
 use Rattle.times.proofs.Digits.{digits-back, above-back}
 use Rattle.times.proofs.TimeReads.{all-right}
 use Rattle.times.specs.declared.time_code.TimeCode.{TimeCode}

@@ -1,7 +1,7 @@
 -- Rule 5: the time code, its four bytes read and made.
 use mathlib.Core.Bool.{Bool, true, false}
 use mathlib.Core.List.{List, [], _∷_}
-use Prim.Native.Nat.{ℕ, _+_, _*_, _/_, _%_, _≤_}
+use Prim.Native.Nat.{ℕ, _+_, _*_, _/_, _%_}
 use lib.Dec.{leb}
 use Rattle.basis.specs.Answer.{InvalidFixedBits, NotWritable}
 use Rattle.basis.specs.Check.{Check, check, verdict, answer, ifClear}
@@ -57,20 +57,27 @@ timeRead hours minutes seconds frames =
     let v = verdict (timeChecks hours minutes seconds frames) in
     record { answer = answer v 0; «time_code» = ifClear v (timeOf hours minutes seconds frames) noTime }
 
--- Writing: hours and frames 0 to 39, minutes and seconds 0 to 79; as tests, and as one fact
+-- Writing: hours and frames 0 to 39, minutes and seconds 0 to 79
+abbrev pub mostHours : ℕ
+mostHours = 39
+
+abbrev pub mostMinutes : ℕ
+mostMinutes = 79
+
+abbrev pub mostSeconds : ℕ
+mostSeconds = 79
+
+abbrev pub mostFrames : ℕ
+mostFrames = 39
+
+-- as tests, and as one fact
 abbrev pub timeWriteChecks : TimeCode → List Check
 timeWriteChecks t =
-    check (leb (t .hours) 39) NotWritable
-    ∷ check (leb (t .minutes) 79) NotWritable
-    ∷ check (leb (t .seconds) 79) NotWritable
-    ∷ check (leb (t .frames) 39) NotWritable
+    check (leb (t .hours) mostHours) NotWritable
+    ∷ check (leb (t .minutes) mostMinutes) NotWritable
+    ∷ check (leb (t .seconds) mostSeconds) NotWritable
+    ∷ check (leb (t .frames) mostFrames) NotWritable
     ∷ []
-
-pub record InRange (t : TimeCode) : Type 0 where
-  pub hours : t .hours ≤ 39
-  pub minutes : t .minutes ≤ 79
-  pub seconds : t .seconds ≤ 79
-  pub frames : t .frames ≤ 39
 
 -- the tens above the units, both below ten and so four bits each
 abbrev pub digitBits : ℕ → ℕ

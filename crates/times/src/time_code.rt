@@ -1,8 +1,10 @@
 // Rule 5: the time code, the four bytes behind its id byte.
 ghost use mathlib.Core.Path.{_≡_};
+ghost use mathlib.Core.List.{_∷_, []};
 ghost use Prim.Native.Nat.{_≤_, _<_};
 ghost use lib.ListN.{getD};
 ghost use Rattle.times.specs.Time as Time;
+ghost use Rattle.times.specs.Code as Code;
 use basis::Answer;
 use basis::flag;
 
@@ -26,6 +28,13 @@ impl MaybeTimeCode {
         present: false,
         time_code: TimeCode::NONE,
     };
+
+    // Nothing calls this: its contract holds the constant above to the rules.
+    fn held() -> Self
+        ensures { λ r. ⌜ r ≡ Time.timeAbsent ⌝ }
+    {
+        Self::ABSENT
+    }
 }
 
 // What reading gives: beside a refusal, no time code.
@@ -82,6 +91,24 @@ impl TimeCode {
     pub const MAX_SECONDS: u8 = 79;
 
     pub const MAX_FRAMES: u8 = 39;
+
+    // Nothing calls these two: their contracts hold the constants above to the rules.
+    fn held() -> [u8; 4]
+        ensures { λ r. ⌜ r ≡ Time.mostHours ∷ Time.mostMinutes ∷ Time.mostSeconds ∷ Time.mostFrames ∷ [] ⌝ }
+    {
+        [
+            Self::MAX_HOURS,
+            Self::MAX_MINUTES,
+            Self::MAX_SECONDS,
+            Self::MAX_FRAMES,
+        ]
+    }
+
+    fn held_none() -> Self
+        ensures { λ r. ⌜ r ≡ Time.noTime ⌝ }
+    {
+        Self::NONE
+    }
 
     // The six values as they are; what cannot be written is refused in writing.
     pub fn new(
@@ -154,7 +181,7 @@ impl TimeCode {
 
     // The fixed bits, the flags above and the digits below.
     fn bytes(self) -> [u8; 4]
-        requires { ⌜ Time.InRange self ⌝ }
+        requires { ⌜ Code.InRange self ⌝ }
         ensures { λ r. ⌜ r ≡ Time.timeBytes self ⌝ }
     {
         [

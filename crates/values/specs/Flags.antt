@@ -1,5 +1,4 @@
 -- Rule 4: the flag byte, read and made.
-use mathlib.Core.Bool.{false}
 use Prim.Native.Nat.{ℕ, _+_}
 use Rattle.basis.specs.Mask.{allSet, flag, x80, x40, x20, x10, x08, x04}
 use Rattle.values.specs.declared.flags.Flags.{Flags}
@@ -14,18 +13,6 @@ flagsOf b =
       «svc_info_start» = allSet x10 b;
       «svc_info_change» = allSet x08 b;
       «svc_info_complete» = allSet x04 b;
-    }
-
--- none of them, beside a refusal
-abbrev pub noFlags : Flags
-noFlags =
-    record {
-      «time_code» = false;
-      «cc_data» = false;
-      «svc_info» = false;
-      «svc_info_start» = false;
-      «svc_info_change» = false;
-      «svc_info_complete» = false;
     }
 
 -- Writing: 02 and 01 are always set

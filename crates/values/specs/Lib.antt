@@ -3,3 +3,4 @@ pub mod Rate
 pub mod Flags
 pub mod Sequence
 pub mod Checksum
+pub mod Code

@@ -1,5 +1,4 @@
 -- The fixed numbers of a packet's layout.
-use mathlib.Core.List.{List, [], _∷_}
 use Prim.Native.Nat.{ℕ}
 
 -- rule 2: the least size
@@ -21,6 +20,3 @@ servicesId = 0x73
 -- rule 9
 abbrev pub footerId : ℕ
 footerId = 0x74
-
-abbrev pub constants : List ℕ
-constants = leastSize ∷ timeCodeId ∷ captionsId ∷ servicesId ∷ footerId ∷ []

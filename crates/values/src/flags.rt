@@ -1,6 +1,7 @@
 // Rule 4: the flag byte. Each constant is a mask with one bit, so that a quotient by it moves the bit down.
 ghost use mathlib.Core.Path.{_≡_};
-ghost use Rattle.values.specs.Flags.{flagsOf, flagByte};
+ghost use Rattle.values.specs.Flags.{flagByte, flagsOf};
+ghost use Rattle.values.specs.Code.{bits, noFlags};
 use basis::flag;
 
 pub struct Flags {
@@ -38,6 +39,28 @@ impl Flags {
         svc_info_change: false,
         svc_info_complete: false,
     };
+
+    // Nothing calls these two: their contracts hold every constant above to the rules.
+    fn held() -> [u8; 8]
+        ensures { λ r. ⌜ r ≡ bits ⌝ }
+    {
+        [
+            Self::TIME_CODE_PRESENT,
+            Self::CC_DATA_PRESENT,
+            Self::SVC_INFO_PRESENT,
+            Self::SVC_INFO_START,
+            Self::SVC_INFO_CHANGE,
+            Self::SVC_INFO_COMPLETE,
+            Self::CAPTION_SERVICE_ACTIVE,
+            Self::RESERVED,
+        ]
+    }
+
+    fn held_none() -> Self
+        ensures { λ r. ⌜ r ≡ noFlags ⌝ }
+    {
+        Self::NONE
+    }
 
     // Bits 02 and 01 are not read.
     pub fn from_byte(byte: u8) -> Self

@@ -1,6 +1,6 @@
 // Rule 3: the eight rates.
 ghost use mathlib.Core.Path.{_≡_};
-ghost use Rattle.values.specs.Rate.{fromId, known, present, row};
+ghost use Rattle.values.specs.Rate.{fromId, known, noRate, present, row};
 
 pub struct Framerate {
     pub id: u8,
@@ -23,6 +23,13 @@ impl MaybeFramerate {
             denom: 0,
         },
     };
+
+    // Nothing calls this: its contract holds the constant above to the rules.
+    fn held() -> Self
+        ensures { λ r. ⌜ r ≡ noRate ⌝ }
+    {
+        Self::ABSENT
+    }
 
     fn known(id: u8, numer: u32, denom: u32) -> Self
         ensures { λ r. ⌜ r ≡ present (row id numer denom) ⌝ }

@@ -1,6 +1,6 @@
 // The fixed numbers of a packet's layout, under the names that the Rust gives them in its reader.
 ghost use mathlib.Core.Path.{_≡_};
-ghost use Rattle.values.specs.Packet.{constants};
+ghost use Rattle.values.specs.Code.{constants};
 
 pub struct Packet {}
 

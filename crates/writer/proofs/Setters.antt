@@ -8,7 +8,8 @@ use lib.Dec.{eqb}
 use Rattle.basis.proofs.Verdicts.{done-value, refused-shows}
 use Rattle.basis.specs.Answer.{WouldOverflow, done, refused}
 use Rattle.basis.specs.Check.{answer, verdict}
-use Rattle.writer.specs.Writer.{countAnswer, holding, setChecks, setServiceInfo}
+use Rattle.writer.specs.Writer.{holding, setChecks, setServiceInfo}
+use Rattle.writer.specs.Code.{countAnswer}
 use Rattle.services.specs.declared.list.MaybeServiceInfo.{MaybeServiceInfo}
 use Rattle.basis.specs.declared.answer.Answer.{Answer}
 use Rattle.writer.specs.declared.writer.CDPWriter.{CDPWriter}

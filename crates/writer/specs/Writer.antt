@@ -8,7 +8,6 @@ use Rattle.packing.specs.Writing as Writing
 use Rattle.times.specs.Time.{timeAbsent}
 use Rattle.services.specs.ServiceList.{countCheck, listAbsent}
 use Rattle.services.specs.declared.list.MaybeServiceInfo.{MaybeServiceInfo}
-use Rattle.basis.specs.declared.answer.Answer.{Answer}
 use Rattle.times.specs.declared.time_code.MaybeTimeCode.{MaybeTimeCode}
 use Rattle.values.specs.declared.framerate.Framerate.{Framerate}
 use Rattle.writer.specs.declared.writer.CDPWriter.{CDPWriter}
@@ -37,9 +36,6 @@ holding w services = writer (w .«time_code») (heldList services) (w .sequence)
 -- a list that is there counts up to 15, or it is refused and the writer is given back
 abbrev pub setChecks : MaybeServiceInfo → List Check
 setChecks services = when (services .present) (countCheck (services .«service_info») ∷ [])
-
-unfoldable pub countAnswer : MaybeServiceInfo → Answer
-countAnswer services = answer (verdict (setChecks services)) 0
 
 unfoldable pub setServiceInfo : CDPWriter → MaybeServiceInfo → CDPWriterSet
 setServiceInfo w services =

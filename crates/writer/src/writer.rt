@@ -1,6 +1,7 @@
 // The writer's values, the calls that set them, and the one that writes them.
 ghost use mathlib.Core.Path.{_≡_};
 ghost use Rattle.writer.specs.Writer as Writer;
+ghost use Rattle.writer.specs.Code as Code;
 use basis::Answer;
 use packing::write_packet;
 use services::MaybeServiceInfo;
@@ -131,7 +132,7 @@ fn held_list(service_info: MaybeServiceInfo) -> MaybeServiceInfo
 
 // Whether a list that is there counts up to 15.
 fn count_checked(service_info: MaybeServiceInfo) -> Answer
-    ensures { λ r. ⌜ r ≡ Writer.countAnswer «service_info» ⌝ }
+    ensures { λ r. ⌜ r ≡ Code.countAnswer «service_info» ⌝ }
 {
     if !service_info.present {
         return Answer::done(0);

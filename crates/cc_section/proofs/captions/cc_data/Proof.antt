@@ -3,7 +3,7 @@
 use mathlib.Core.Path.{_∙_}
 use native.Mathlib.Omega.{arith}
 use borrow.Author.Tests.{not-true, not-false}
-use Rattle.cc_section.proofs.CcDataReads.{not-there, too-short, other-id, no-E0, captions-cut, cc-data-whole}
+use Rattle.cc_section.proofs.CcDataReads.{captions-cut, cc-data-whole, no-E0, not-there, other-id, too-short}
 use borrow.Author.Needs.{needs}
 use Rattle.cc_section.proofs.captions.cc_data.Statement.{statement}
 use Rattle.cc_section.proofs.captions.cc_data.Tie as tie
@@ -11,8 +11,11 @@ use Rattle.cc_section.proofs.captions.cc_data.Tie as tie
 done-requires : tie.Need-done-requires
 done-requires c κs = search needs
 
+alone-requires : tie.Need-alone-requires
+alone-requires c κs = search needs
+
 returns : tie.Need-returns
-returns c = c .done .ensures ∙ not-there _ _ _ (not-true _ (c .before .if1 .taken))
+returns c = c .alone .ensures ∙ rw (c .before .done .ensures) (not-there _ _ _ (not-true _ (c .before .before .if1 .taken)))
 
 add-if2 : tie.Need-add-if2
 add-if2 c = search needs
@@ -23,14 +26,20 @@ add-length-mismatch c = search needs
 length-mismatch-requires : tie.Need-length-mismatch-requires
 length-mismatch-requires c κs = search needs
 
+alone-requires-2 : tie.Need-alone-requires-2
+alone-requires-2 c κs = search needs
+
 returns-2 : tie.Need-returns-2
-returns-2 c = c .length-mismatch .ensures ∙ too-short _ _ _ (not-false _ (c .before .before .if1 .left)) (omega arith)
+returns-2 c = c .alone2 .ensures ∙ rw (c .before .length-mismatch .ensures) (too-short _ _ _ (not-false _ (c .before .before .before .if1 .left)) (omega arith))
 
 shared-slice-read-if3 : tie.Need-shared-slice-read-if3
 shared-slice-read-if3 c = search needs
 
+alone-requires-3 : tie.Need-alone-requires-3
+alone-requires-3 c κs = search needs
+
 returns-3 : tie.Need-returns-3
-returns-3 c = other-id _ _ _ (not-false _ (c .before .before .before .if1 .left)) (omega arith) (λ h. omega arith)
+returns-3 c = c .alone3 .ensures ∙ other-id _ _ _ (not-false _ (c .before .before .before .before .if1 .left)) (omega arith) (λ h. omega arith)
 
 add-header : tie.Need-add-header
 add-header c = search needs
@@ -38,8 +47,11 @@ add-header c = search needs
 shared-slice-read-header : tie.Need-shared-slice-read-header
 shared-slice-read-header c = search needs
 
+alone-requires-4 : tie.Need-alone-requires-4
+alone-requires-4 c κs = search needs
+
 returns-4 : tie.Need-returns-4
-returns-4 c = no-E0 _ _ _ (not-false _ (c .before .before .before .before .before .if1 .left)) (omega arith) (omega arith) (λ h. omega arith)
+returns-4 c = c .alone4 .ensures ∙ no-E0 _ _ _ (not-false _ (c .before .before .before .before .before .before .if1 .left)) (omega arith) (omega arith) (λ h. omega arith)
 
 cast-length : tie.Need-cast-length
 cast-length c = search needs
@@ -59,29 +71,36 @@ add-length-mismatch-2 c = search needs
 length-mismatch-requires-2 : tie.Need-length-mismatch-requires-2
 length-mismatch-requires-2 c κs = search needs
 
-returns-5 : tie.Need-returns-5
-returns-5 c = c .length-mismatch2 .ensures ∙ captions-cut _ _ _ (not-false _ (c .before .before .before .before .before .before .before .if1 .left)) (omega arith) (omega arith) (omega arith) (omega arith)
+alone-requires-5 : tie.Need-alone-requires-5
+alone-requires-5 c κs = search needs
 
-done-requires-2 : tie.Need-done-requires-2
-done-requires-2 c κs = search needs
+returns-5 : tie.Need-returns-5
+returns-5 c = c .alone5 .ensures ∙ rw (c .before .length-mismatch2 .ensures) (captions-cut _ _ _ (not-false _ (c .before .before .before .before .before .before .before .before .if1 .left)) (omega arith) (omega arith) (omega arith) (omega arith))
+
+sized-requires : tie.Need-sized-requires
+sized-requires c κs = search needs
 
 returns-6 : tie.Need-returns-6
-returns-6 c = c .done2 .ensures ∙ cc-data-whole _ _ _ (not-false _ (c .before .before .before .before .before .before .before .if1 .left)) (omega arith) (omega arith) (omega arith) (omega arith)
+returns-6 c = c .sized .ensures ∙ cc-data-whole _ _ _ (not-false _ (c .before .before .before .before .before .before .before .if1 .left)) (omega arith) (omega arith) (omega arith) (omega arith)
 
 pub cc-data-spec : {M : Type 1} → statement M
 cc-data-spec =
     tie.close
     (tie.spec
     done-requires
+    alone-requires
     returns
     add-if2
     add-length-mismatch
     length-mismatch-requires
+    alone-requires-2
     returns-2
     shared-slice-read-if3
+    alone-requires-3
     returns-3
     add-header
     shared-slice-read-header
+    alone-requires-4
     returns-4
     cast-length
     mul-length
@@ -89,6 +108,7 @@ cc-data-spec =
     add-if5
     add-length-mismatch-2
     length-mismatch-requires-2
+    alone-requires-5
     returns-5
-    done-requires-2
+    sized-requires
     returns-6)

@@ -34,7 +34,7 @@ same-length : tie.Need-same-length
 same-length c = search needs
 
 returns : tie.Need-returns
-returns c = (refl, c .before .before .put2 .ensures ∙ rw (c .before .before .before .before .before .before .put .ensures) (captions-put (c .before .before .before .before .before .before .before .before .before .before .before .args .at) _ _ (c .before .before .before .before .before .before .before .before .before .before .before .pre .1)))
+returns c = (refl, c .before .before .put2 .ensures .1 ∙ rw (c .before .before .before .before .before .before .put .ensures .1) (captions-put (c .before .before .before .before .before .before .before .before .before .before .before .args .at) _ _ (c .before .before .before .before .before .before .before .before .before .before .before .pre .1)))
 
 pub put-cc-data-spec : {M : Type 1} → statement M
 put-cc-data-spec =

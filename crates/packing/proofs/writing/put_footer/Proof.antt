@@ -48,9 +48,9 @@ same-length c = search needs
 returns : tie.Need-returns
 returns c =
     let s = c .before .before .before .before .before .before .before .before .before .before .before .before .before .before in
-    let p = c .before .before .before .before .before .before .before .before .before .put .ensures in
+    let p = c .before .before .before .before .before .before .before .before .before .put .ensures .1 in
     let e = c .before .before .before .before .before .before .before .before .before .before .before .before .sequence-bytes .ensures in
-    c .before .before .put2 .ensures ∙ rw (p, e) (footer-put (s .args .at) (s .args .out .now) (s .args .sequence) (s .pre) _ (rw (p, e) at (c .before .before .before .before .before .checksum-byte .ensures)))
+    c .before .before .put2 .ensures .1 ∙ rw (p, e) (footer-put (s .args .at) (s .args .out .now) (s .args .sequence) (s .pre) _ (rw (p, e) at (c .before .before .before .before .before .checksum-byte .ensures)))
 
 pub put-footer-spec : {M : Type 1} → statement M
 put-footer-spec =

@@ -5,7 +5,7 @@ use mathlib.Core.Path.{_∙_, ap, ap₂}
 use Prim.Native.Nat.{ℕ}
 use native.Mathlib.Omega.{arith}
 use lib.ListN.{length}
-use Rattle.basis.specs.Bytes.{put}
+use Rattle.basis.specs.Code.{put}
 use Rattle.packet_checks.proofs.Tests.{accepted, known-id, length-most}
 use Rattle.packing.proofs.Parts.{packet-put}
 use Rattle.packing.specs.Writing.{headerBytes}
@@ -44,7 +44,9 @@ put-svc-info-requires c κs =
     (accepted (s .args .framerate) (s .args .time-code) (s .args .service-info) (length (s .args .captions .now)) (s .pre .0) .served, omega (arith, c .before .before .before .put-cc-data .ensures .0, c .before .before .before .put-cc-data .kept .1 .1 .0, c .before .before .before .before .before .before .before .put-time-code .ensures .0, c .before .before .before .before .before .before .before .put-time-code .kept .1 .1 .0, c .before .before .before .before .before .before .before .before .before .before .before .put .kept .0, s .pre .1 .0, s .pre .1 .1))
 
 put-footer-requires : tie.Need-put-footer-requires
-put-footer-requires c κs = search needs
+put-footer-requires c κs =
+    let s = c .before .before .before .before .before .before .before .before .before .before .before .before .before .before .before .before .before .before .before .before .before .before in
+    omega (arith, c .before .before .before .put-svc-info .ensures .0, c .before .before .before .put-svc-info .kept .1 .1 .0, c .before .before .before .before .before .before .before .put-cc-data .ensures .0, c .before .before .before .before .before .before .before .put-cc-data .kept .1 .1 .0, c .before .before .before .before .before .before .before .before .before .before .before .put-time-code .ensures .0, c .before .before .before .before .before .before .before .before .before .before .before .put-time-code .kept .1 .1 .0, c .before .before .before .before .before .before .before .before .before .before .before .before .before .before .before .put .kept .0, s .pre .1 .0, s .pre .1 .1)
 
 same-length : tie.Need-same-length
 same-length c = search needs
@@ -57,7 +59,7 @@ returns c =
     let header =
     c .before .before .before .before .before .before .before .before .before .before .before .before .before .before .before .before .before .before .before .before .before .header-bytes .ensures ∙ ap₂ (λ (n : ℕ) (f : Flags). headerBytes n rate f (s .args .sequence)) (s .pre .1 .0) (c .before .before .before .before .before .before .before .before .before .before .before .before .before .before .before .before .before .before .before .before .before .before .flags .ensures) in
     packet-put rate (s .args .sequence) (s .args .time-code) (s .args .service-info) (s .args .captions .now) buffer _ _ _ _ _ _ _ _ (omega (arith, s .pre .1 .0, s .pre .1 .1))
-    (c .before .before .before .before .before .before .before .before .before .before .before .before .before .before .before .before .before .before .put .ensures ∙ ap (λ (h : List ℕ). put 0 h buffer) header)
+    (c .before .before .before .before .before .before .before .before .before .before .before .before .before .before .before .before .before .before .put .ensures .1 ∙ ap (λ (h : List ℕ). put 0 h buffer) header)
     (c .before .before .before .before .before .before .before .before .before .before .before .before .before .before .put-time-code .ensures)
     (c .before .before .before .before .before .before .before .before .before .before .put-cc-data .ensures)
     (c .before .before .before .before .before .before .put-svc-info .ensures)

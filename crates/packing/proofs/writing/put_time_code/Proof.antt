@@ -38,7 +38,7 @@ returns-2 : tie.Need-returns-2
 returns-2 c =
     let s = c .before .before .before .before .before .before .before .before .before .before .before .before .before .before .before in
     let p = time-put (s .args .at) (s .args .out .now) (s .args .time-code) (not-false _ (c .before .before .before .before .before .before .before .before .before .before .before .before .if1 .left)) (s .pre .0) (s .pre .1) in
-    (p .0, c .before .before .put2 .ensures ∙ rw (c .before .before .before .before .before .before .before .put .ensures, c .before .before .before .before .before .before .before .before .before .before .before .to-bytes .ensures) (p .1))
+    (p .0, c .before .before .put2 .ensures .1 ∙ rw (c .before .before .before .before .before .before .before .put .ensures .1, c .before .before .before .before .before .before .before .before .before .before .before .to-bytes .ensures) (p .1))
 
 pub put-time-code-spec : {M : Type 1} → statement M
 put-time-code-spec =

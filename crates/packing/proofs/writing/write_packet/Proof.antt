@@ -1,10 +1,10 @@
--- `packing::writing::write_packet`: the checks of the values, room, then the packet.
+-- `packing::write_packet`: the checks of the values, room, then the packet.
 -- Assumes nothing.
 use mathlib.Core.Path.{_∙_, ap, sym}
 use lib.ListN.{length}
-use Rattle.basis.specs.declared.answer.Answer.{Answer}
 use borrow.Author.Tests.{not-true, not-false}
-use Rattle.packet_checks.proofs.Tests.{packet-asked}
+use Rattle.packet_checks.proofs.Tests.{packet-right}
+use Rattle.packet_checks.specs.declared.checks.WriteTested.{WriteTested}
 use Rattle.packing.proofs.PacketWrites.{packet-fits, packet-no-room, packet-refused}
 use borrow.Author.Needs.{needs}
 use Rattle.packing.proofs.writing.write_packet.Statement.{statement}
@@ -18,13 +18,13 @@ is-done-requires c κs = search needs
 
 returns : tie.Need-returns
 returns c =
-    let s = c .before .before .before .before .before in
+    let s = c .before .before .before .before .before .before in
     let rate = s .args .framerate in
     let time = s .args .time-code in
     let services = s .args .service-info in
     let captions = s .args .captions .now in
     let buffer = s .args .out .now in
-    let e = c .before .before .writable .ensures in
+    let e = c .before .before .before .writable .ensures in
     rw e (packet-refused rate (s .args .sequence) time services captions buffer (rw e at (sym (c .before .is-done .ensures) ∙ not-true _ (c .if1 .taken))))
 
 buffer-too-short-requires : tie.Need-buffer-too-short-requires
@@ -32,39 +32,48 @@ buffer-too-short-requires c κs = search needs
 
 returns-2 : tie.Need-returns-2
 returns-2 c =
-    let s = c .before .before .before .before .before .before .before in
+    let s = c .before .before .before .before .before .before .before .before in
     let rate = s .args .framerate in
     let time = s .args .time-code in
     let services = s .args .service-info in
     let captions = s .args .captions .now in
     let buffer = s .args .out .now in
-    let d = packet-asked rate time services (length captions) _ (c .before .before .before .before .writable .ensures) (sym (c .before .before .before .is-done .ensures) ∙ not-false _ (c .before .before .if1 .left)) in
-    rw (c .buffer-too-short .ensures, d .1) (packet-no-room rate (s .args .sequence) time services captions buffer (d .0) (rw (d .1) at (c .before .if2 .taken)))
+    let e = c .before .before .before .before .before .writable .ensures in
+    let both = packet-right rate time services (length captions) (rw e at (sym (c .before .before .before .is-done .ensures) ∙ not-false _ (c .before .before .if1 .left))) in
+    let long = ap (λ (t : WriteTested). t .length) e ∙ both .1 in
+    rw (c .buffer-too-short .ensures, long) (packet-no-room rate (s .args .sequence) time services captions buffer (both .0) (rw long at (c .before .if2 .taken)))
 
 put-packet-requires : tie.Need-put-packet-requires
 put-packet-requires c κs =
-    let s = c .before .before .before .before .before .before .before in
+    let s = c .before .before .before .before .before .before .before .before in
     let rate = s .args .framerate in
     let time = s .args .time-code in
     let services = s .args .service-info in
     let captions = s .args .captions .now in
     let buffer = s .args .out .now in
-    let d = packet-asked rate time services (length captions) _ (c .before .before .before .before .writable .ensures) (sym (c .before .before .before .is-done .ensures) ∙ not-false _ (c .before .before .if1 .left)) in
-    (d .0, (ap (λ (a : Answer). a .first) (d .1), c .before .if2 .left))
+    let e = c .before .before .before .before .before .writable .ensures in
+    let both = packet-right rate time services (length captions) (rw e at (sym (c .before .before .before .is-done .ensures) ∙ not-false _ (c .before .before .if1 .left))) in
+    let long = ap (λ (t : WriteTested). t .length) e ∙ both .1 in
+    (both .0, (long, c .before .if2 .left))
+
+done-requires : tie.Need-done-requires
+done-requires c κs = search needs
 
 same-length : tie.Need-same-length
 same-length c = search needs
 
 returns-3 : tie.Need-returns-3
 returns-3 c =
-    let s = c .before .before .before .before .before .before .before .before .before .before in
+    let s = c .before .before .before .before .before .before .before .before .before .before .before .before in
     let rate = s .args .framerate in
     let time = s .args .time-code in
     let services = s .args .service-info in
     let captions = s .args .captions .now in
     let buffer = s .args .out .now in
-    let d = packet-asked rate time services (length captions) _ (c .before .before .before .before .before .before .before .writable .ensures) (sym (c .before .before .before .before .before .before .is-done .ensures) ∙ not-false _ (c .before .before .before .before .before .if1 .left)) in
-    rw (d .1, c .before .before .put-packet .ensures) (packet-fits rate (s .args .sequence) time services captions buffer (d .0) (rw (d .1) at (c .before .before .before .before .if2 .left)))
+    let e = c .before .before .before .before .before .before .before .before .before .writable .ensures in
+    let both = packet-right rate time services (length captions) (rw e at (sym (c .before .before .before .before .before .before .before .is-done .ensures) ∙ not-false _ (c .before .before .before .before .before .before .if1 .left))) in
+    let long = ap (λ (t : WriteTested). t .length) e ∙ both .1 in
+    rw (c .done .ensures, long, c .before .before .before .put-packet .ensures) (packet-fits rate (s .args .sequence) time services captions buffer (both .0) (rw long at (c .before .before .before .before .before .if2 .left)))
 
 pub write-packet-spec : {M : Type 1} → statement M
 write-packet-spec =
@@ -76,5 +85,6 @@ write-packet-spec =
     buffer-too-short-requires
     returns-2
     put-packet-requires
+    done-requires
     same-length
     returns-3)

@@ -1,14 +1,21 @@
--- `reader::shown::shown`: what is held, and the list.
+-- `reader::shown::shown`: what the tests have kept, and the list.
 -- Assumes nothing.
-use borrow.Author.Needs.{needs}
+use mathlib.Core.Path.{_∙_, ap}
+use Rattle.reader.proofs.PacketShown.{checked-clear, shown-is}
+use Rattle.checked.specs.declared.checked.Checked.{Checked}
 use Rattle.reader.proofs.shown.shown.Statement.{statement}
 use Rattle.reader.proofs.shown.shown.Tie as tie
 
-svc-info-untested-requires : tie.Need-svc-info-untested-requires
-svc-info-untested-requires c κs = search needs
+list-requires : tie.Need-list-requires
+list-requires c κs =
+    let s = c .before .before .before .before in
+    let e = s .pre .1 ∙ checked-clear _ (s .pre .0) in
+    (s .pre .0, (ap (λ (r : Checked). r .flags) e, ap (λ (r : Checked). r .«svc_info_at») e))
 
 returns : tie.Need-returns
-returns c = rw (c .svc-info-untested .ensures)
+returns c =
+    let s = c .before .before .before .before .before in
+    rw (c .list .ensures, s .pre .1 ∙ checked-clear _ (s .pre .0)) (shown-is _)
 
 pub shown-spec : {M : Type 1} → statement M
-shown-spec = tie.close (tie.spec svc-info-untested-requires returns)
+shown-spec = tie.close (tie.spec list-requires returns)

@@ -1,22 +1,25 @@
 -- `services::writing::put_entries`: after k turns the first k entries stand behind the section's two bytes.
 -- Assumes nothing.
-use mathlib.Core.Path.{_≡_, _∙_, refl}
+use mathlib.Core.Bool.{true}
+use mathlib.Core.Path.{_≡_, _∙_, sym, refl}
 use Prim.Native.Nat.{_≤_, _-_}
 use lib.ListN.{length}
 use native.Mathlib.Omega.{arith}
 use borrow.Author.Needs.{needs}
+use Rattle.entries.specs.Service.{filler}
+use Rattle.services.proofs.Writable.{ahead, ahead-first, ahead-here, ahead-next}
 use Rattle.services.proofs.SectionWrites.{entriesPut, put-none, put-more, put-all}
 use Rattle.services.proofs.writing.put_entries.Statement.{statement}
 use Rattle.services.proofs.writing.put_entries.Tie as tie
 
 abbrev Inv-loop : tie.InvT-loop
-Inv-loop count out₀ services k₀ out k = (k ≤ count) × (length out ≡ length out₀) × (out ≡ entriesPut k services out₀)
+Inv-loop count out₀ services k₀ out k = (k ≤ count) × (length out ≡ length out₀) × (out ≡ entriesPut k services out₀) × (ahead k count services ≡ true)
 
 abbrev μ-loop : tie.MeasureT-loop
 μ-loop count out₀ services k₀ out k = count - k
 
 loop-holds : tie.Need-loop-holds Inv-loop μ-loop
-loop-holds c = (omega arith, refl, put-none 0 _ _)
+loop-holds c = (omega arith, refl, put-none 0 _ _, sym (ahead-first 0 _ _) ∙ c .before .pre .1 .1)
 
 mul-entry : tie.Need-mul-entry Inv-loop μ-loop
 mul-entry c = search needs
@@ -49,7 +52,7 @@ loop-again : tie.Need-loop-again Inv-loop μ-loop
 loop-again c =
     let s = c .before .before .before .before .before in
     let inv = s .before .before .before .loop .inv in
-    (omega arith, omega arith, c .before .before .put .ensures ∙ rw (s .section-bytes .ensures, inv .2) (put-more _ _ _ _ (omega arith) (omega arith)))
+    (omega arith, omega arith, c .before .before .put .ensures .1 ∙ rw (s .section-bytes .ensures, inv .2) (put-more _ _ _ _ (omega arith) (omega arith) (ahead-here _ _ _ _ (omega arith) (omega arith) (inv .3))), ahead-next _ _ _ filler (omega arith) (omega arith) (inv .3))
 
 same-length : tie.Need-same-length Inv-loop μ-loop
 same-length c = search needs

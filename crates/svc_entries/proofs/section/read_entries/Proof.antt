@@ -1,84 +1,38 @@
--- `svc_entries::read_entries` is rules S1 to S4, and then the entries.
+-- `svc_entries::read_entries`: the tests decide, and what they let through is made.
 -- Assumes nothing.
-use mathlib.Core.Path.{_∙_}
-use native.Mathlib.Omega.{arith}
-use Rattle.svc_entries.proofs.SectionReads.{too-short, other-id, no-80, other-size}
+use mathlib.Core.Path.{_∙_, ap, sym}
+use borrow.Author.Tests.{not-true, not-false}
+use Rattle.svc_entries.specs.Code.{refusedEntries}
+use Rattle.svc_entries.proofs.SectionReads.{entries-read, entries-refused, section-clear}
 use borrow.Author.Needs.{needs}
 use Rattle.svc_entries.proofs.section.read_entries.Statement.{statement}
 use Rattle.svc_entries.proofs.section.read_entries.Tie as tie
 
-length-mismatch-requires : tie.Need-length-mismatch-requires
-length-mismatch-requires c κs = search needs
+test-section-requires : tie.Need-test-section-requires
+test-section-requires c κs = search needs
+
+is-done-requires : tie.Need-is-done-requires
+is-done-requires c κs = search needs
 
 refused-requires : tie.Need-refused-requires
 refused-requires c κs = search needs
 
 returns : tie.Need-returns
-returns c = c .refused .ensures ∙ rw (c .before .length-mismatch .ensures) (too-short _ (omega arith))
+returns c =
+    let e = c .before .before .before .test-section .ensures in
+    c .refused .ensures ∙ ap refusedEntries e ∙ entries-refused _ (rw e at (sym (c .before .before .is-done .ensures) ∙ not-true _ (c .before .if1 .taken)))
 
-shared-slice-read-if2 : tie.Need-shared-slice-read-if2
-shared-slice-read-if2 c = search needs
-
-refused-requires-2 : tie.Need-refused-requires-2
-refused-requires-2 c κs = search needs
+places-requires : tie.Need-places-requires
+places-requires c κs =
+    let e = c .before .before .test-section .ensures in
+    section-clear _ (rw e at (sym (c .before .is-done .ensures) ∙ not-false _ (c .if1 .left)))
 
 returns-2 : tie.Need-returns-2
-returns-2 c = c .refused2 .ensures ∙ other-id _ (omega arith) (c .before .if2 .taken)
-
-shared-slice-read-header : tie.Need-shared-slice-read-header
-shared-slice-read-header c = search needs
-
-refused-requires-3 : tie.Need-refused-requires-3
-refused-requires-3 c κs = search needs
-
-returns-3 : tie.Need-returns-3
-returns-3 c = c .refused3 .ensures ∙ no-80 _ (omega arith) (c .before .before .before .if2 .left) (c .before .if3 .taken)
-
-cast-expected : tie.Need-cast-expected
-cast-expected c = search needs
-
-mul-expected : tie.Need-mul-expected
-mul-expected c = search needs
-
-add-expected : tie.Need-add-expected
-add-expected c = search needs
-
-length-mismatch-requires-2 : tie.Need-length-mismatch-requires-2
-length-mismatch-requires-2 c κs = search needs
-
-refused-requires-4 : tie.Need-refused-requires-4
-refused-requires-4 c κs = search needs
-
-returns-4 : tie.Need-returns-4
-returns-4 c =
-    let s = c .before .before .before in
-    c .refused4 .ensures
-    ∙ rw (c .before .length-mismatch2 .ensures) (other-size _ (omega arith) (s .before .before .if2 .left) (s .if3 .left) (λ h. omega arith))
-
-entries-requires : tie.Need-entries-requires
-entries-requires c κs = search needs
-
-returns-5 : tie.Need-returns-5
-returns-5 c = search needs
+returns-2 c =
+    let e = c .before .before .before .test-section .ensures in
+    rw (c .places .ensures, e) (entries-read _ (rw e at (sym (c .before .before .is-done .ensures) ∙ not-false _ (c .before .if1 .left))))
 
 pub read-entries-spec : {M : Type 1} → statement M
 read-entries-spec =
     tie.close
-    (tie.spec
-    length-mismatch-requires
-    refused-requires
-    returns
-    shared-slice-read-if2
-    refused-requires-2
-    returns-2
-    shared-slice-read-header
-    refused-requires-3
-    returns-3
-    cast-expected
-    mul-expected
-    add-expected
-    length-mismatch-requires-2
-    refused-requires-4
-    returns-4
-    entries-requires
-    returns-5)
+    (tie.spec test-section-requires is-done-requires refused-requires returns places-requires returns-2)

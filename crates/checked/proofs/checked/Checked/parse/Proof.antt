@@ -8,10 +8,11 @@ use native.Mathlib.Omega.{arith}
 use borrow.Author.Tests.{not-true, not-false}
 use denote.Ref.{now}
 use lib.Dec.{eqb}
-use Rattle.header.specs.Header.{headerRead}
-use Rattle.checked.specs.Packet.{captionLength, refusedChecked}
-use Rattle.basis.specs.Answer.{done}
-use Rattle.checked.proofs.PacketReads.{captionsAsked, cc-data-is, cc-data-near, cc-data-refused, closing-near, closing-refused, header-is, header-refused, headerShown, servicesAsked, packet-whole, servicesShown, svc-info-is, svc-info-near, svc-info-refused, time-code-is, time-code-refused, timeAsked, timeShown}
+use Rattle.header.specs.Code.{headerRead}
+use Rattle.checked.specs.Packet.{captionLength}
+use Rattle.checked.specs.Code.{refusedChecked}
+use Rattle.basis.specs.Code.{sized}
+use Rattle.checked.proofs.PacketReads.{captionsAsked, cc-data-is, cc-data-near, cc-data-refused, closing-near, closing-refused, header-is, header-refused, headerShown, servicesAsked, packet-whole, servicesSize, svc-info-is, svc-info-near, svc-info-refused, time-code-is, time-code-refused, timeAsked, timeShown}
 use borrow.Author.Needs.{needs}
 use Rattle.checked.proofs.checked.Checked.parse.Statement.{statement}
 use Rattle.checked.proofs.checked.Checked.parse.Tie as tie
@@ -39,27 +40,27 @@ time-code-result : (c : tie.Else2) → c .before .before .before .parse2 .result
 time-code-result c = time-code-asked c ∙ time-code-is _ (time-code-kept c)
 
 abbrev packet3 : tie.Else3 → List ℕ
-packet3 c = packet2 (c .before .before .before .before)
+packet3 c = packet2 (c .before .before .before .before .before)
 
-cc-data-asked : (c : tie.Else3) → c .before .before .cc-data .result ≡ captionsAsked (packet3 c)
-cc-data-asked c = rw (header-result (c .before .before .before .before .before .before .before .before .before), time-code-result (c .before .before .before .before)) at (c .before .before .cc-data .ensures)
+cc-data-asked : (c : tie.Else3) → c .before .before .before .cc-data .result ≡ captionsAsked (packet3 c)
+cc-data-asked c = rw (header-result (c .before .before .before .before .before .before .before .before .before .before), time-code-result (c .before .before .before .before .before)) at (c .before .before .before .cc-data .ensures)
 
-cc-data-kept : (c : tie.Else3) → eqb (captionsAsked (packet3 c) .number) 0 ≡ true
+cc-data-kept : (c : tie.Else3) → eqb (captionsAsked (packet3 c) .answer .number) 0 ≡ true
 cc-data-kept c = rw (cc-data-asked c) at (sym (c .before .is-done3 .ensures) ∙ not-false _ (c .if3 .left))
 
-cc-data-result : (c : tie.Else3) → c .before .before .cc-data .result ≡ done (captionLength (packet3 c))
+cc-data-result : (c : tie.Else3) → c .before .before .before .cc-data .result ≡ sized (captionLength (packet3 c))
 cc-data-result c = cc-data-asked c ∙ cc-data-is _ (cc-data-kept c)
 
 abbrev packet4 : tie.Else4 → List ℕ
 packet4 c = packet3 (c .before .before .before .before .before)
 
-svc-info-asked : (c : tie.Else4) → c .before .before .before .parse3 .result ≡ servicesAsked (packet4 c)
-svc-info-asked c = rw (header-result (c .before .before .before .before .before .before .before .before .before .before .before .before .before .before), time-code-result (c .before .before .before .before .before .before .before .before .before), cc-data-result (c .before .before .before .before .before)) at (c .before .before .before .parse3 .ensures)
+svc-info-asked : (c : tie.Else4) → c .before .before .before .svc-info .result ≡ servicesAsked (packet4 c)
+svc-info-asked c = rw (header-result (c .before .before .before .before .before .before .before .before .before .before .before .before .before .before .before), time-code-result (c .before .before .before .before .before .before .before .before .before .before), cc-data-result (c .before .before .before .before .before)) at (c .before .before .before .svc-info .ensures)
 
 svc-info-kept : (c : tie.Else4) → eqb (servicesAsked (packet4 c) .answer .number) 0 ≡ true
 svc-info-kept c = rw (svc-info-asked c) at (sym (c .before .is-done4 .ensures) ∙ not-false _ (c .if4 .left))
 
-svc-info-result : (c : tie.Else4) → c .before .before .before .parse3 .result ≡ servicesShown (packet4 c)
+svc-info-result : (c : tie.Else4) → c .before .before .before .svc-info .result ≡ sized (servicesSize (packet4 c))
 svc-info-result c = svc-info-asked c ∙ svc-info-is _ (svc-info-kept c)
 
 parse-requires : tie.Need-parse-requires
@@ -110,20 +111,20 @@ refused-requires-3 c κs = search needs
 
 returns-3 : tie.Need-returns-3
 returns-3 c =
-    let t = c .before .before .before .before .before in
+    let t = c .before .before .before .before .before .before in
     let s = t .before .before .before .before .before in
-    let e = rw (header-result s, time-code-result t) at (c .before .before .before .cc-data .ensures) in
+    let e = rw (header-result s, time-code-result t) at (c .before .before .before .before .cc-data .ensures) in
     let wrong = sym (c .before .before .is-done3 .ensures) ∙ not-true _ (c .before .if3 .taken) in
-    c .refused3 .ensures ∙ ap refusedChecked e ∙ cc-data-refused _ (header-kept s) (time-code-kept t) (rw e at wrong)
+    c .refused3 .ensures ∙ rw e (cc-data-refused _ (header-kept s) (time-code-kept t) (rw e at wrong))
 
 add-svc-info-at : tie.Need-add-svc-info-at
-add-svc-info-at c = rw (time-code-result (c .before .before .before .before .before), cc-data-result (c .before)) (omega (arith, svc-info-near (packet3 (c .before))))
+add-svc-info-at c = rw (time-code-result (c .before .before .before .before .before .before), cc-data-result (c .before)) (omega (arith, svc-info-near (packet3 (c .before))))
 
-cast-parse : tie.Need-cast-parse
-cast-parse c = rw (time-code-result (c .before .before .before .before .before), cc-data-result (c .before)) (omega (arith, svc-info-near (packet3 (c .before))))
+cast-svc-info : tie.Need-cast-svc-info
+cast-svc-info c = rw (time-code-result (c .before .before .before .before .before .before), cc-data-result (c .before)) (omega (arith, svc-info-near (packet3 (c .before))))
 
-parse-requires-3 : tie.Need-parse-requires-3
-parse-requires-3 c κs = search needs
+svc-info-requires : tie.Need-svc-info-requires
+svc-info-requires c κs = search needs
 
 is-done-requires-4 : tie.Need-is-done-requires-4
 is-done-requires-4 c κs = search needs
@@ -134,17 +135,17 @@ refused-requires-4 c κs = search needs
 returns-4 : tie.Need-returns-4
 returns-4 c =
     let u = c .before .before .before .before .before .before in
-    let t = u .before .before .before .before in
+    let t = u .before .before .before .before .before in
     let s = t .before .before .before .before .before in
-    let e = rw (header-result s, time-code-result t, cc-data-result u) at (c .before .before .before .before .parse3 .ensures) in
+    let e = rw (header-result s, time-code-result t, cc-data-result u) at (c .before .before .before .before .svc-info .ensures) in
     let wrong = sym (c .before .before .is-done4 .ensures) ∙ not-true _ (c .before .if4 .taken) in
     c .refused4 .ensures ∙ rw e (svc-info-refused _ (header-kept s) (time-code-kept t) (cc-data-kept u) (rw e at wrong))
 
 add-closing-at : tie.Need-add-closing-at
-add-closing-at c = rw (time-code-result (c .before .before .before .before .before .before .before .before .before .before), cc-data-result (c .before .before .before .before .before .before), svc-info-result (c .before)) (omega (arith, closing-near (packet4 (c .before))))
+add-closing-at c = rw (time-code-result (c .before .before .before .before .before .before .before .before .before .before .before), cc-data-result (c .before .before .before .before .before .before), svc-info-result (c .before)) (omega (arith, closing-near (packet4 (c .before))))
 
 cast-closing : tie.Need-cast-closing
-cast-closing c = rw (time-code-result (c .before .before .before .before .before .before .before .before .before .before), cc-data-result (c .before .before .before .before .before .before), svc-info-result (c .before)) (omega (arith, closing-near (packet4 (c .before))))
+cast-closing c = rw (time-code-result (c .before .before .before .before .before .before .before .before .before .before .before), cc-data-result (c .before .before .before .before .before .before), svc-info-result (c .before)) (omega (arith, closing-near (packet4 (c .before))))
 
 closing-requires : tie.Need-closing-requires
 closing-requires c κs = search needs
@@ -159,36 +160,39 @@ returns-5 : tie.Need-returns-5
 returns-5 c =
     let v = c .before .before .before .before .before in
     let u = v .before .before .before .before .before in
-    let t = u .before .before .before .before in
+    let t = u .before .before .before .before .before in
     let s = t .before .before .before .before .before in
     let e = rw (header-result s, time-code-result t, cc-data-result u, svc-info-result v) at (c .before .before .before .closing .ensures) in
     let wrong = sym (c .before .before .is-done5 .ensures) ∙ not-true _ (c .before .if5 .taken) in
     c .refused5 .ensures ∙ ap refusedChecked e ∙ closing-refused _ (header-kept s) (time-code-kept t) (cc-data-kept u) (svc-info-kept v) (rw e at wrong)
 
-cast-t18 : tie.Need-cast-t18
-cast-t18 c =
-    let t = c .before .before .before .before .before .before .before .before .before .before .before .before .before .before .before in
-    rw (time-code-result t) (omega (arith, cc-data-near (packet2 t)))
+done-requires : tie.Need-done-requires
+done-requires c κs = search needs
 
 cast-t19 : tie.Need-cast-t19
 cast-t19 c =
-    let u = c .before .before .before .before .before .before .before .before .before .before .before in
-    rw (time-code-result (u .before .before .before .before), cc-data-result u) (omega (arith, svc-info-near (packet3 u)))
+    let t = c .before .before .before .before .before .before .before .before .before .before .before .before .before .before .before .before .before in
+    rw (time-code-result t) (omega (arith, cc-data-near (packet2 t)))
+
+cast-t21 : tie.Need-cast-t21
+cast-t21 c =
+    let u = c .before .before .before .before .before .before .before .before .before .before .before .before in
+    rw (time-code-result (u .before .before .before .before .before), cc-data-result u) (omega (arith, svc-info-near (packet3 u)))
 
 returns-6 : tie.Need-returns-6
 returns-6 c =
-    let v = c .before .before .before .before .before .before in
+    let v = c .before .before .before .before .before .before .before in
     let u = v .before .before .before .before .before in
-    let t = u .before .before .before .before in
+    let t = u .before .before .before .before .before in
     let s = t .before .before .before .before .before in
     let h = header-result s in
     let time = time-code-result t in
     let d = cc-data-result u in
     let i = svc-info-result v in
-    let e = rw (h, time, d, i) at (c .before .before .before .before .closing .ensures) in
-    let right = rw e at (sym (c .before .before .before .is-done5 .ensures) ∙ not-false _ (c .before .before .if5 .left)) in
+    let e = rw (h, time, d, i) at (c .before .before .before .before .before .closing .ensures) in
+    let right = rw e at (sym (c .before .before .before .before .is-done5 .ensures) ∙ not-false _ (c .before .before .before .if5 .left)) in
     let whole = packet-whole _ (header-kept s) (time-code-kept t) (cc-data-kept u) (svc-info-kept v) right in
-    rw (h, time, d) whole
+    rw (c .done .ensures, h, time, d) whole
 
 pub parse-spec : {M : Type 1} → statement M
 parse-spec =
@@ -209,8 +213,8 @@ parse-spec =
     refused-requires-3
     returns-3
     add-svc-info-at
-    cast-parse
-    parse-requires-3
+    cast-svc-info
+    svc-info-requires
     is-done-requires-4
     refused-requires-4
     returns-4
@@ -220,6 +224,7 @@ parse-spec =
     is-done-requires-5
     refused-requires-5
     returns-5
-    cast-t18
+    done-requires
     cast-t19
+    cast-t21
     returns-6)

@@ -59,13 +59,13 @@ returns-5 c =
 done-requires : tie.Need-done-requires
 done-requires c κs = search needs
 
-untested-requires : tie.Need-untested-requires
-untested-requires c κs = search needs
+of-bytes-requires : tie.Need-of-bytes-requires
+of-bytes-requires c κs = search needs
 
 returns-6 : tie.Need-returns-6
 returns-6 c =
     let s = c .before .before in
-    rw (c .before .done .ensures, c .untested .ensures)
+    rw (c .before .done .ensures, c .of-bytes .ensures)
     (all-right _ (s .before .before .before .if1 .left) (⊎-elim (λ w. inl (w .0 .taken, w .1 .left)) (λ w. inr (w .0 .left, w .1 .left)) (s .before .before .if2 .came)) (s .before .if5 .left) (s .if6 .left))
 
 pub parse-spec : {M : Type 1} → statement M
@@ -86,5 +86,5 @@ parse-spec =
     refused-requires-5
     returns-5
     done-requires
-    untested-requires
+    of-bytes-requires
     returns-6)

@@ -3,6 +3,7 @@
 use mathlib.Core.Path.{_∙_, sym}
 use native.Mathlib.Omega.{arith}
 use borrow.Author.Tests.{not-true, not-false}
+use Rattle.entries.proofs.EntryBack.{six-of}
 use Rattle.entries.proofs.EntryWrites.{entry-unwritable, entry-no-room, entry-fits}
 use borrow.Author.Needs.{needs}
 use Rattle.entries.proofs.entry.ServiceEntry.write_into.Statement.{statement}
@@ -40,7 +41,9 @@ same-length c = search needs
 returns-3 : tie.Need-returns-3
 returns-3 c =
     let tests = c .before .before .before .before .before .before .before in
-    rw (c .done .ensures, c .before .before .before .put .ensures, c .before .before .before .before .before .before .bytes .ensures) (entry-fits _ _ (sym (tests .before .before .is-writable .ensures) ∙ not-false _ (tests .before .if1 .left)) (omega arith))
+    let can = sym (tests .before .before .is-writable .ensures) ∙ not-false _ (tests .before .if1 .left) in
+    let bytes = c .before .before .before .before .before .before .bytes .ensures ∙ six-of (c .before .before .before .before .before .before .before .before .before .before .before .args .self) can in
+    rw (c .done .ensures, c .before .before .before .put .ensures .1, bytes) (entry-fits _ _ can (omega arith))
 
 pub write-into-spec : {M : Type 1} → statement M
 write-into-spec =

@@ -2,8 +2,8 @@
 -- Assumes nothing.
 use mathlib.Core.Path.{_∙_, sym, ap}
 use borrow.Author.Tests.{not-true, not-false}
-use Rattle.reader.specs.Shown.{refusedPacket}
-use Rattle.reader.proofs.PacketShown.{accepts, all-shown, checks-answer, none-shown}
+use Rattle.reader.specs.Code.{refusedPacket}
+use Rattle.reader.proofs.PacketShown.{accepts, all-shown, checks-answer, none-shown, packet-clear}
 use Rattle.checked.specs.declared.checked.Checked.{Checked}
 use borrow.Author.Needs.{needs}
 use Rattle.reader.proofs.packet.PacketRead.parse.Statement.{statement}
@@ -24,7 +24,10 @@ returns c =
     c .refused .ensures ∙ ap refusedPacket e ∙ none-shown _ (rw e at (sym (c .before .before .is-done .ensures) ∙ not-true _ (c .before .if1 .taken)))
 
 shown-requires : tie.Need-shown-requires
-shown-requires c κs = search needs
+shown-requires c κs =
+    let checked = c .before .before .before .parse .ensures in
+    let right = rw (ap (λ (r : Checked). r .answer) checked ∙ checks-answer _) at (sym (c .before .is-done .ensures) ∙ not-false _ (c .if1 .left)) in
+    (packet-clear _ right, checked)
 
 returns-2 : tie.Need-returns-2
 returns-2 c =

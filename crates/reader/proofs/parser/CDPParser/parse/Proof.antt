@@ -3,8 +3,8 @@
 use mathlib.Core.Path.{_∙_, sym, ap}
 use native.Mathlib.Omega.{arith}
 use borrow.Author.Tests.{not-true, not-false}
-use Rattle.reader.proofs.PacketShown.{accepts, checks-answer}
-use Rattle.reader.proofs.ReaderReads.{no-room, no-room-buffer, packet-refused, refused-buffer, packet-accepted, accepted-buffer}
+use Rattle.reader.proofs.PacketShown.{accepts, checks-answer, packet-clear}
+use Rattle.reader.proofs.ReaderReads.{has-captions, no-room, no-room-buffer, packet-refused, refused-buffer, packet-accepted, accepted-buffer}
 use Rattle.checked.specs.declared.checked.Checked.{Checked}
 use borrow.Author.Needs.{needs}
 use Rattle.reader.proofs.parser.CDPParser.parse.Statement.{statement}
@@ -32,19 +32,24 @@ returns-2 c =
     (rw (c .cleared .ensures, e) (packet-refused _ _ _ (omega arith) wrong), refused-buffer _ _ (omega arith) wrong)
 
 hand-out-requires : tie.Need-hand-out-requires
-hand-out-requires c κs = search needs
+hand-out-requires c κs =
+    let checked = c .before .before .before .before .parse .ensures in
+    let right = rw (ap (λ (r : Checked). r .answer) checked ∙ checks-answer _) at (sym (c .before .before .is-done .ensures) ∙ not-false _ (c .before .if2 .left)) in
+    (rw (checked ∙ accepts _ right) (has-captions _ (packet-clear _ right)), omega arith)
 
 shown-requires : tie.Need-shown-requires
-shown-requires c κs = search needs
+shown-requires c κs =
+    let checked = c .before .before .before .before .before .before .before .parse .ensures in
+    let right = rw (ap (λ (r : Checked). r .answer) checked ∙ checks-answer _) at (sym (c .before .before .before .before .before .is-done .ensures) ∙ not-false _ (c .before .before .before .before .if2 .left)) in
+    (packet-clear _ right, checked)
 
 same-length : tie.Need-same-length
 same-length c = search needs
 
 returns-3 : tie.Need-returns-3
 returns-3 c =
-    let checked = c .before .before .before .before .before .before .before .before .before .parse .ensures in
-    let done = sym (c .before .before .before .before .before .before .before .is-done .ensures) ∙ not-false _ (c .before .before .before .before .before .before .if2 .left) in
-    let right = rw (ap (λ (r : Checked). r .answer) checked ∙ checks-answer _) at done in
+    let checked = c .before .before .before .before .before .before .before .before .parse .ensures in
+    let right = rw (ap (λ (r : Checked). r .answer) checked ∙ checks-answer _) at (sym (c .before .before .before .before .before .before .is-done .ensures) ∙ not-false _ (c .before .before .before .before .before .if2 .left)) in
     (rw (c .shown .ensures, checked ∙ accepts _ right) (packet-accepted _ _ _ (omega arith) right), c .before .before .before .hand-out .ensures ∙ rw (checked ∙ accepts _ right) (accepted-buffer _ _ (omega arith) right))
 
 pub parse-spec : {M : Type 1} → statement M

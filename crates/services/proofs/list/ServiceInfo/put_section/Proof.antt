@@ -25,7 +25,7 @@ same-length c = search needs
 returns : tie.Need-returns
 returns c =
     let s = c .before .before .before .before .before .before in
-    c .before .before .put-entries .ensures ∙ rw (s .put .ensures, s .before .before .before .before .header-byte .ensures) (head-and-entries _ _ (omega arith))
+    c .before .before .put-entries .ensures ∙ rw (s .put .ensures .1, s .before .before .before .before .header-byte .ensures) (head-and-entries _ _ (omega arith))
 
 pub put-section-spec : {M : Type 1} → statement M
 put-section-spec =

@@ -36,7 +36,7 @@ put-section-requires c κs =
     let e = s .before .before .before .writable .ensures in
     let ok = rw e at (sym (s .before .before .is-done .ensures) ∙ not-false _ (s .before .if1 .left)) in
     let size = s .byte-len .ensures ∙ value-length _ ok in
-    (value-done _ ok .0, rw size at (c .before .if2 .left))
+    (value-done _ ok .0, (rw size at (c .before .if2 .left), value-done _ ok .1))
 
 same-length : tie.Need-same-length
 same-length c = search needs
