@@ -1,7 +1,12 @@
-// Bytes put into a lent buffer.
+// Bytes put into a lent buffer, as many of them as it has room for.
+ghost use mathlib.Core.List.{[], _∷_};
+ghost use lib.ListN.{replicate};
+ghost use Rattle.reader_sweep.specs.Room.{Put};
 
 // Puts one byte, and gives the place behind it. Behind the buffer's end nothing is put.
-pub fn put(out: &mut [u8], at: usize, byte: u8) -> usize {
+pub fn put(out: &mut [u8], at: usize, byte: u8) -> usize
+    ensures { λ r. ⌜ Put at (byte ∷ []) (now (out .entry)) r (now (out .exit)) ⌝ }
+{
     if at < out.len() {
         out[at] = byte;
         return at + 1;
@@ -9,7 +14,9 @@ pub fn put(out: &mut [u8], at: usize, byte: u8) -> usize {
     at
 }
 
-pub fn put_all(out: &mut [u8], from: usize, bytes: &[u8]) -> usize {
+pub fn put_all(out: &mut [u8], from: usize, bytes: &[u8]) -> usize
+    ensures { λ r. ⌜ Put from (now (bytes .entry)) (now (out .entry)) r (now (out .exit)) ⌝ }
+{
     let mut at = from;
     for k in 0..bytes.len() {
         at = put(out, at, bytes[k]);
@@ -18,7 +25,9 @@ pub fn put_all(out: &mut [u8], from: usize, bytes: &[u8]) -> usize {
 }
 
 // The same byte so many times.
-pub fn repeat(out: &mut [u8], from: usize, byte: u8, count: u8) -> usize {
+pub fn repeat(out: &mut [u8], from: usize, byte: u8, count: u8) -> usize
+    ensures { λ r. ⌜ Put from (replicate count byte) (now (out .entry)) r (now (out .exit)) ⌝ }
+{
     let mut at = from;
     for k in 0..count {
         at = put(out, at, byte);

@@ -1,7 +1,11 @@
 // The seven bytes of a service in a packet. Every third is a field, 1 and 2 in turn.
+ghost use mathlib.Core.Path.{_≡_};
 ghost use Prim.Native.Nat.{_≤_};
+ghost use Rattle.reader_sweep.specs.Make as Make;
 
-pub fn bytes(packet: u8, k: u8) -> [u8; 7] {
+pub fn bytes(packet: u8, k: u8) -> [u8; 7]
+    ensures { λ r. ⌜ r ≡ Make.entryBytes packet k ⌝ }
+{
     [
         0x80 + number(k),
         0x61 + k % 16,
@@ -14,7 +18,9 @@ pub fn bytes(packet: u8, k: u8) -> [u8; 7] {
     ]
 }
 
-fn kind(k: u8) -> u8 {
+fn kind(k: u8) -> u8
+    ensures { λ r. ⌜ r ≡ Make.kindOf k ⌝ }
+{
     if k % 3 == 2 {
         0x7E + k / 3 % 2
     } else {
@@ -22,8 +28,9 @@ fn kind(k: u8) -> u8 {
     }
 }
 
-// What the header byte names.
+// What the header byte names. The second clause follows from the first; callers' sums fit by it.
 fn number(k: u8) -> u8
+    ensures { λ r. ⌜ r ≡ Make.numberOf k ⌝ }
     ensures { λ r. ⌜ r ≤ 63 ⌝ }
 {
     if k % 3 == 2 {

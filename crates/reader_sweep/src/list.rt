@@ -1,11 +1,15 @@
 // A list of services, fed to a digest with all its places: those behind its count have to be fillers.
-use report::entry_fed;
+ghost use mathlib.Core.Path.{_≡_};
+ghost use Rattle.reader_sweep.specs.Shown as Shown;
+use report::entries_fed;
 use report::feed;
 use report::flag_fed;
 use services::MaybeServiceInfo;
-use services::ServiceEntry;
+use services::ServiceInfo;
 
-pub fn maybe(digest: u64, shown: MaybeServiceInfo) -> u64 {
+pub fn maybe(digest: u64, shown: MaybeServiceInfo) -> u64
+    ensures { λ r. ⌜ r ≡ Shown.listFed digest shown ⌝ }
+{
     let list = shown.service_info;
     let services = list.services;
     let present = flag_fed(digest, shown.present);
@@ -14,14 +18,5 @@ pub fn maybe(digest: u64, shown: MaybeServiceInfo) -> u64 {
         list.complete,
     );
     let count = feed(flags, (list.count % 256) as u8);
-    entries(count, services)
-}
-
-fn entries(first: u64, services: [ServiceEntry; 15]) -> u64 {
-    let mut digest = first;
-    for k in 0..15 {
-        let entry = services[k];
-        digest = entry_fed(digest, entry);
-    }
-    digest
+    entries_fed(count, services, ServiceInfo::PLACES)
 }

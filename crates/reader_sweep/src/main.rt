@@ -2,7 +2,6 @@
 // beside src/ is what the oracle prints for the same sweep.
 mod bytes;
 mod change;
-mod digest;
 mod entry;
 mod lines;
 mod list;

@@ -1,4 +1,11 @@
 // A packet that is accepted, made from its recipe. Each part is put behind the one before it.
+ghost use mathlib.Core.Path.{_≡_};
+ghost use Prim.Native.Nat.{_/_, _%_};
+ghost use lib.ListN.{length};
+ghost use Rattle.basis.specs.Bytes.{over};
+ghost use Rattle.report.specs.Made.{made};
+ghost use Rattle.reader_sweep.specs.Make as Make;
+ghost use Rattle.reader_sweep.specs.Room.{Put};
 use crate::bytes::put;
 use crate::bytes::put_all;
 use crate::bytes::repeat;
@@ -9,17 +16,32 @@ use crate::recipes::Recipe;
 // It is also what future sections contain and what stands behind a footer, so that a wrong length meets it.
 const FOOTER_ID: u8 = 0x74;
 
-// Makes the packet at the start of a lent buffer, and gives its size.
-pub fn packet(out: &mut [u8], recipe: Recipe) -> usize {
+// Makes the packet at the start of a lent buffer, as much of it as there is room for, and gives its size.
+pub fn packet(out: &mut [u8], recipe: Recipe) -> usize
+    ensures { λ r. ⌜ r ≡ length (Make.packetMade recipe (length (now (out .entry)))) ⌝ }
+    ensures { λ _. ⌜ now (out .exit) ≡ over 0 (Make.packetMade recipe (length (now (out .entry)))) (now (out .entry)) ⌝ }
+{
     let size = parts(out, recipe);
-    put(out, 2, (size % 256) as u8);
-    if size <= out.len() {
-        mend(&mut out[0..size], recipe.behind);
+    // What was put is in the buffer.
+    if out.len() < size {
+        return size;
     }
+    finish(&mut out[0..size], recipe.behind);
     size
 }
 
-fn parts(out: &mut [u8], recipe: Recipe) -> usize {
+// The size in its place, and the checksum right.
+fn finish(packet: &mut [u8], behind: u8)
+    ensures { λ _. ⌜ now (packet .exit) ≡ Make.finished behind (now (packet .entry)) ⌝ }
+{
+    let size = packet.len();
+    put(packet, 2, (size % 256) as u8);
+    mend(packet, behind);
+}
+
+fn parts(out: &mut [u8], recipe: Recipe) -> usize
+    ensures { λ r. ⌜ Put 0 (Make.partsBytes recipe) (now (out .entry)) r (now (out .exit)) ⌝ }
+{
     let header_end = header(out, recipe);
     let time_code_end = time_code(out, header_end, recipe);
     let captions_end = captions(out, time_code_end, recipe);
@@ -30,7 +52,9 @@ fn parts(out: &mut [u8], recipe: Recipe) -> usize {
 }
 
 // The size comes when all else is there.
-fn header(out: &mut [u8], recipe: Recipe) -> usize {
+fn header(out: &mut [u8], recipe: Recipe) -> usize
+    ensures { λ r. ⌜ Put 0 (Make.headerBytes recipe) (now (out .entry)) r (now (out .exit)) ⌝ }
+{
     let bytes = [
         0x96,
         0x69,
@@ -43,15 +67,21 @@ fn header(out: &mut [u8], recipe: Recipe) -> usize {
     put_all(out, 0, &bytes)
 }
 
-fn high(sequence: u16) -> u8 {
+fn high(sequence: u16) -> u8
+    ensures { λ r. ⌜ r ≡ sequence / 256 ⌝ }
+{
     (sequence / 256) as u8
 }
 
-fn low(sequence: u16) -> u8 {
+fn low(sequence: u16) -> u8
+    ensures { λ r. ⌜ r ≡ sequence % 256 ⌝ }
+{
     (sequence % 256) as u8
 }
 
-fn time_code(out: &mut [u8], at: usize, recipe: Recipe) -> usize {
+fn time_code(out: &mut [u8], at: usize, recipe: Recipe) -> usize
+    ensures { λ r. ⌜ Put at (Make.timeBytes recipe) (now (out .entry)) r (now (out .exit)) ⌝ }
+{
     if recipe.flags / 0x80 % 2 == 0 {
         return at;
     }
@@ -59,7 +89,9 @@ fn time_code(out: &mut [u8], at: usize, recipe: Recipe) -> usize {
     put_all(out, at, &bytes)
 }
 
-fn captions(out: &mut [u8], at: usize, recipe: Recipe) -> usize {
+fn captions(out: &mut [u8], at: usize, recipe: Recipe) -> usize
+    ensures { λ r. ⌜ Put at (Make.captionBytes recipe) (now (out .entry)) r (now (out .exit)) ⌝ }
+{
     if recipe.flags / 0x40 % 2 == 0 {
         return at;
     }
@@ -69,7 +101,9 @@ fn captions(out: &mut [u8], at: usize, recipe: Recipe) -> usize {
     caption_bytes(out, behind, recipe.number, 3 * count)
 }
 
-fn caption_bytes(out: &mut [u8], from: usize, number: u8, count: u8) -> usize {
+fn caption_bytes(out: &mut [u8], from: usize, number: u8, count: u8) -> usize
+    ensures { λ r. ⌜ Put from (made (Make.captionByte number) count) (now (out .entry)) r (now (out .exit)) ⌝ }
+{
     let mut at = from;
     for k in 0..count {
         at = put(out, at, caption_byte(number, k));
@@ -77,12 +111,16 @@ fn caption_bytes(out: &mut [u8], from: usize, number: u8, count: u8) -> usize {
     at
 }
 
-fn caption_byte(number: u8, k: u8) -> u8 {
+fn caption_byte(number: u8, k: u8) -> u8
+    ensures { λ r. ⌜ r ≡ Make.captionByte number k ⌝ }
+{
     ((k as u64 * 7 + number as u64) % 256) as u8
 }
 
 // The section's three flags stand two bits higher than the header's.
-fn services(out: &mut [u8], at: usize, recipe: Recipe) -> usize {
+fn services(out: &mut [u8], at: usize, recipe: Recipe) -> usize
+    ensures { λ r. ⌜ Put at (Make.serviceBytes recipe) (now (out .entry)) r (now (out .exit)) ⌝ }
+{
     if recipe.flags / 0x20 % 2 == 0 {
         return at;
     }
@@ -92,7 +130,9 @@ fn services(out: &mut [u8], at: usize, recipe: Recipe) -> usize {
     entries(out, behind, recipe.number, count)
 }
 
-fn entries(out: &mut [u8], from: usize, number: u8, count: u8) -> usize {
+fn entries(out: &mut [u8], from: usize, number: u8, count: u8) -> usize
+    ensures { λ r. ⌜ Put from (Make.entriesMade number count) (now (out .entry)) r (now (out .exit)) ⌝ }
+{
     let mut at = from;
     for k in 0..count {
         let bytes = entry::bytes(number, k);
@@ -102,7 +142,9 @@ fn entries(out: &mut [u8], from: usize, number: u8, count: u8) -> usize {
 }
 
 // Ten bytes in all, whose content the first section has.
-fn futures(out: &mut [u8], at: usize, count: u8) -> usize {
+fn futures(out: &mut [u8], at: usize, count: u8) -> usize
+    ensures { λ r. ⌜ Put at (Make.futuresBytes count) (now (out .entry)) r (now (out .exit)) ⌝ }
+{
     match count {
         0 => at,
         1 => future(out, at, 0x75, 8),
@@ -113,14 +155,18 @@ fn futures(out: &mut [u8], at: usize, count: u8) -> usize {
     }
 }
 
-fn future(out: &mut [u8], at: usize, id: u8, length: u8) -> usize {
-    let bytes = [id, length];
+fn future(out: &mut [u8], at: usize, id: u8, size: u8) -> usize
+    ensures { λ r. ⌜ Put at (Make.futureBytes id size) (now (out .entry)) r (now (out .exit)) ⌝ }
+{
+    let bytes = [id, size];
     let behind = put_all(out, at, &bytes);
-    repeat(out, behind, FOOTER_ID, length)
+    repeat(out, behind, FOOTER_ID, size)
 }
 
 // The checksum byte stays where bytes follow it.
-fn footer(out: &mut [u8], at: usize, sequence: u16) -> usize {
+fn footer(out: &mut [u8], at: usize, sequence: u16) -> usize
+    ensures { λ r. ⌜ Put at (Make.footerBytes sequence) (now (out .entry)) r (now (out .exit)) ⌝ }
+{
     let bytes = [FOOTER_ID, high(sequence), low(sequence), 0x5A];
     put_all(out, at, &bytes)
 }

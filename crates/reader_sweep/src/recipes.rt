@@ -1,4 +1,6 @@
 // The packets of the sweep, each a row of numbers.
+ghost use mathlib.Core.Path.{_≡_};
+ghost use Rattle.reader_sweep.specs.Recipes as Recipes;
 
 // All that a packet is made from. Its number makes its hours, captions and languages its own.
 pub struct Recipe {
@@ -14,7 +16,9 @@ pub struct Recipe {
 
 impl Recipe {
     // Byte 3, byte 4, sequence, then how many captions, services, future sections and bytes behind the footer.
-    pub fn new(number: u8) -> Self {
+    pub fn new(number: u8) -> Self
+        ensures { λ r. ⌜ r ≡ Recipes.recipeOf number ⌝ }
+    {
         match number {
             // Read before each of the others.
             0 => Self::row(0, 0x8F, 0xBF, 0x1234, 0, 4, 0, 0),
@@ -45,7 +49,9 @@ impl Recipe {
         services: u8,
         futures: u8,
         behind: u8,
-    ) -> Self {
+    ) -> Self
+        ensures { λ r. ⌜ r ≡ Recipes.row number rate flags sequence captions services futures behind ⌝ }
+    {
         Self {
             number,
             rate,

@@ -1,6 +1,7 @@
--- What a digest comes to: of a byte, a flag, and an entry.
+-- What a digest comes to: of a byte, a flag, a number, bytes, and entries.
 use mathlib.Core.Bool.{Bool, cond}
-use Prim.Native.Nat.{ℕ, _+_, _*_, _%_}
+use mathlib.Core.List.{List, [], _∷_}
+use Prim.Native.Nat.{ℕ, zero, suc, _+_, _*_, _/_, _%_}
 use Rattle.basis.specs.Bytes.{byte}
 use Rattle.entries.specs.declared.entry.ServiceEntry.{ServiceEntry}
 use Rattle.entries.specs.declared.service.FieldOrService.{FieldOrService}
@@ -13,6 +14,15 @@ fed digest b = (digest % 4294967296 * 16777619 + b + 1) % 4294967296
 abbrev pub flagFed : ℕ → Bool → ℕ
 flagFed digest on = fed digest (cond on 1 0)
 
+-- the low two bytes of a number, high byte first
+abbrev pub twoFed : ℕ → ℕ → ℕ
+twoFed digest n = fed (fed digest (n / 256 % 256)) (n % 256)
+
+-- bytes, first to last
+abbrev pub allFed : ℕ → List ℕ → ℕ
+allFed digest [] = digest
+allFed digest (b ∷ bs) = allFed (fed digest b) bs
+
 -- 0 and a field, or 1 and a digital service
 abbrev pub serviceFed : ℕ → FieldOrService → ℕ
 serviceFed digest (Field first) = fed (fed digest 0) (cond first 1 2)
@@ -23,3 +33,13 @@ serviceFed digest (Service digital) =
 unfoldable pub entryFed : ℕ → ServiceEntry → ℕ
 entryFed digest e =
     serviceFed (fed (fed (fed digest (byte (e .language) 0)) (byte (e .language) 1)) (byte (e .language) 2)) (e .service)
+
+-- entries, first to last
+abbrev pub entriesFed : ℕ → List ServiceEntry → ℕ
+entriesFed digest [] = digest
+entriesFed digest (e ∷ es) = entriesFed (entryFed digest e) es
+
+-- a digest from 0 on, fed so many times: step takes it and how often it was fed before
+unfoldable pub swept : (ℕ → ℕ → ℕ) → ℕ → ℕ
+swept step zero = 0
+swept step (suc n) = step (swept step n) n

@@ -1,5 +1,6 @@
 // A number for a block of values, the same on both sides.
 ghost use mathlib.Core.Path.{_≡_};
+ghost use lib.ListN.{take};
 ghost use Rattle.report.specs.Digest as Digest;
 use entries::FieldOrService;
 use entries::ServiceEntry;
@@ -14,6 +15,38 @@ pub fn flag_fed(digest: u64, on: bool) -> u64
     ensures { λ r. ⌜ r ≡ Digest.flagFed digest on ⌝ }
 {
     if on { feed(digest, 1) } else { feed(digest, 0) }
+}
+
+// The low two bytes of a number, high byte first.
+pub fn two_fed(digest: u64, n: u64) -> u64
+    ensures { λ r. ⌜ r ≡ Digest.twoFed digest n ⌝ }
+{
+    feed(feed(digest, (n / 256 % 256) as u8), (n % 256) as u8)
+}
+
+pub fn all_fed(first: u64, bytes: &[u8]) -> u64
+    ensures { λ r. ⌜ r ≡ Digest.allFed first (now (bytes .entry)) ⌝ }
+{
+    let mut digest = first;
+    for k in 0..bytes.len() {
+        digest = feed(digest, bytes[k]);
+    }
+    digest
+}
+
+// So many of the entries. A count over 15 ends at the last place.
+pub fn entries_fed(first: u64, services: [ServiceEntry; 15], count: usize) -> u64
+    ensures { λ r. ⌜ r ≡ Digest.entriesFed first (take count services) ⌝ }
+{
+    let mut digest = first;
+    for k in 0..15 {
+        if count <= k {
+            return digest;
+        }
+        let entry = services[k];
+        digest = entry_fed(digest, entry);
+    }
+    digest
 }
 
 // The language, then the service.

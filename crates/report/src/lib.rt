@@ -2,7 +2,10 @@
 mod digest;
 mod lent;
 
+pub use digest::all_fed;
+pub use digest::entries_fed;
 pub use digest::entry_fed;
 pub use digest::feed;
 pub use digest::flag_fed;
+pub use digest::two_fed;
 pub use lent::fill;

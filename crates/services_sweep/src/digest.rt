@@ -1,4 +1,7 @@
 // A digest for each line.
+ghost use mathlib.Core.Path.{_≡_};
+ghost use Rattle.report.specs.Digest.{swept};
+ghost use Rattle.services_sweep.specs.Sweep as Sweep;
 use crate::good;
 use crate::read;
 
@@ -14,28 +17,40 @@ enum Block {
     Sizes(u64),
 }
 
-pub fn entries(kind: u64) -> u64 {
+pub fn entries(kind: u64) -> u64
+    ensures { λ r. ⌜ r ≡ Sweep.entriesDigest kind ⌝ }
+{
     over(Block::Entries(kind), 65536)
 }
 
-pub fn headers(header: u64) -> u64 {
+pub fn headers(header: u64) -> u64
+    ensures { λ r. ⌜ r ≡ Sweep.headersDigest header ⌝ }
+{
     over(Block::Headers(header), 256)
 }
 
-pub fn place(count: u64, place: u64) -> u64 {
+pub fn place(count: u64, place: u64) -> u64
+    ensures { λ r. ⌜ r ≡ Sweep.placeDigest count place ⌝ }
+{
     over(Block::Place(count, place), 256)
 }
 
-pub fn sizes(count: u64) -> u64 {
+pub fn sizes(count: u64) -> u64
+    ensures { λ r. ⌜ r ≡ Sweep.sizesDigest count ⌝ }
+{
     over(Block::Sizes(count), good::size(count) + 9)
 }
 
-pub fn second_byte(byte: u64) -> u64 {
+pub fn second_byte(byte: u64) -> u64
+    ensures { λ r. ⌜ r ≡ Sweep.secondByteDigest byte ⌝ }
+{
     let size = good::size(byte);
     read::changed(0, byte, size, 1, byte)
 }
 
-fn over(block: Block, count: u64) -> u64 {
+fn over(block: Block, count: u64) -> u64
+    ensures { λ r. ⌜ r ≡ swept (Sweep.stepOf block) count ⌝ }
+{
     let mut digest = 0;
     for n in 0..count {
         digest = fed(block, digest, n);
@@ -43,7 +58,9 @@ fn over(block: Block, count: u64) -> u64 {
     digest
 }
 
-fn fed(block: Block, digest: u64, n: u64) -> u64 {
+fn fed(block: Block, digest: u64, n: u64) -> u64
+    ensures { λ r. ⌜ r ≡ Sweep.stepOf block digest n ⌝ }
+{
     match block {
         Block::Entries(kind) => read::entry(digest, kind, n),
         Block::Headers(header) => read::one(digest, header, n),

@@ -1,15 +1,19 @@
 // Sections that the reader takes, byte by byte, made from their count of entries.
+ghost use mathlib.Core.Path.{_≡_};
 ghost use Prim.Native.Nat.{_≤_};
+ghost use Rattle.services_sweep.specs.Good as Good;
 
 // How many bytes the section of a count has.
 pub fn size(count: u64) -> u64
-    ensures { λ r. ⌜ r ≤ 107 ⌝ }
+    ensures { λ r. ⌜ r ≡ Good.goodSize count ⌝ }
 {
     2 + 7 * (count % 16)
 }
 
 // What stands at a place; behind the section, zeros.
-pub fn byte(count: u64, place: u64) -> u8 {
+pub fn byte(count: u64, place: u64) -> u8
+    ensures { λ r. ⌜ r ≡ Good.goodByte count place ⌝ }
+{
     if place == 0 {
         0x73
     } else if place == 1 {
@@ -22,7 +26,9 @@ pub fn byte(count: u64, place: u64) -> u8 {
 }
 
 // The byte of entry k: its header byte, three of language, and the three that name its service.
-fn entry_byte(k: u64, place: u64) -> u8 {
+fn entry_byte(k: u64, place: u64) -> u8
+    ensures { λ r. ⌜ r ≡ Good.entryByte k place ⌝ }
+{
     match place {
         0 => number(k) + 0x80,
         1 => (0x61 + k % 16) as u8,
@@ -35,7 +41,9 @@ fn entry_byte(k: u64, place: u64) -> u8 {
 }
 
 // Every fourth entry is a field, 1 and 2 in turn.
-fn kind(k: u64) -> u8 {
+fn kind(k: u64) -> u8
+    ensures { λ r. ⌜ r ≡ Good.kindAt k ⌝ }
+{
     if k % 4 == 3 {
         (0x7E + k / 4 % 2) as u8
     } else {
@@ -43,8 +51,9 @@ fn kind(k: u64) -> u8 {
     }
 }
 
-// What the header byte names.
+// What the header byte names. The second clause follows from the first; callers' sums fit by it.
 fn number(k: u64) -> u8
+    ensures { λ r. ⌜ r ≡ Good.numberAt k ⌝ }
     ensures { λ r. ⌜ r ≤ 63 ⌝ }
 {
     if k % 4 == 3 {
@@ -55,6 +64,8 @@ fn number(k: u64) -> u8
 }
 
 // All have flags, which a field drops.
-fn flags(k: u64) -> u8 {
+fn flags(k: u64) -> u8
+    ensures { λ r. ⌜ r ≡ Good.flagsAt k ⌝ }
+{
     (k % 2 * 0x80 + k % 3 % 2 * 0x40 + 0x3F) as u8
 }

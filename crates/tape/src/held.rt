@@ -1,9 +1,13 @@
 // A rate, and what a writer may hold, as a tape spells them.
+ghost use mathlib.Core.Path.{_≡_};
+ghost use Rattle.services.specs.ServiceList.{listPresent};
+ghost use Rattle.tape.specs.Held as Held;
 use crate::lists;
 use crate::words::NOWHERE;
 use crate::words::flag;
 use crate::words::mark;
 use crate::words::number;
+use crate::words::small;
 use services::MaybeServiceInfo;
 use times::MaybeTimeCode;
 use times::TimeCode;
@@ -25,22 +29,26 @@ pub struct ServicesWord {
 }
 
 // Any three numbers; whether they are one of the eight rates is the writer's to say.
-pub fn rate(line: &[u8], at: usize) -> RateWord {
-    let id = number(line, at, 255);
+pub fn rate(line: &[u8], at: usize) -> RateWord
+    ensures { λ r. ⌜ r ≡ Held.rateAt (now (line .entry)) at ⌝ }
+{
+    let id = small(line, at);
     let numer = number(line, mark(line, id.next, b'/'), 0xFFFF_FFFF);
     let denom = number(line, mark(line, numer.next, b'/'), 0xFFFF_FFFF);
     RateWord {
         framerate: Framerate {
-            id: (id.value % 256) as u8,
-            numer: (numer.value % 0x1_0000_0000) as u32,
-            denom: (denom.value % 0x1_0000_0000) as u32,
+            id: id.value,
+            numer: numer.value,
+            denom: denom.value,
         },
         next: denom.next,
     }
 }
 
 // A dash where none is held.
-pub fn time(line: &[u8], at: usize) -> TimeWord {
+pub fn time(line: &[u8], at: usize) -> TimeWord
+    ensures { λ r. ⌜ r ≡ Held.timeAt (now (line .entry)) at ⌝ }
+{
     let dash = mark(line, at, b'-');
     if dash != NOWHERE {
         return TimeWord {
@@ -51,18 +59,20 @@ pub fn time(line: &[u8], at: usize) -> TimeWord {
     clock(line, at)
 }
 
-fn clock(line: &[u8], at: usize) -> TimeWord {
-    let hours = number(line, at, 255);
-    let minutes = number(line, mark(line, hours.next, b':'), 255);
-    let seconds = number(line, mark(line, minutes.next, b':'), 255);
-    let frames = number(line, mark(line, seconds.next, b':'), 255);
+fn clock(line: &[u8], at: usize) -> TimeWord
+    ensures { λ r. ⌜ r ≡ Held.clockAt (now (line .entry)) at ⌝ }
+{
+    let hours = small(line, at);
+    let minutes = small(line, mark(line, hours.next, b':'));
+    let seconds = small(line, mark(line, minutes.next, b':'));
+    let frames = small(line, mark(line, seconds.next, b':'));
     let field = flag(line, mark(line, frames.next, b':'));
     let drop_frame = flag(line, mark(line, field.next, b':'));
     let time_code = TimeCode::new(
-        (hours.value % 256) as u8,
-        (minutes.value % 256) as u8,
-        (seconds.value % 256) as u8,
-        (frames.value % 256) as u8,
+        hours.value,
+        minutes.value,
+        seconds.value,
+        frames.value,
         field.on,
         drop_frame.on,
     );
@@ -76,7 +86,9 @@ fn clock(line: &[u8], at: usize) -> TimeWord {
 }
 
 // A dash where none are held.
-pub fn services(line: &[u8], at: usize) -> ServicesWord {
+pub fn services(line: &[u8], at: usize) -> ServicesWord
+    ensures { λ r. ⌜ r ≡ Held.servicesAt (now (line .entry)) at ⌝ }
+{
     let dash = mark(line, at, b'-');
     if dash != NOWHERE {
         return ServicesWord {
@@ -87,7 +99,9 @@ pub fn services(line: &[u8], at: usize) -> ServicesWord {
     listed(lists::list(line, at))
 }
 
-fn listed(word: lists::ListWord) -> ServicesWord {
+fn listed(word: lists::ListWord) -> ServicesWord
+    ensures { λ r. ⌜ r ≡ Held.servicesWord (listPresent (word .list)) (word .next) ⌝ }
+{
     let service_info = word.list;
     ServicesWord {
         service_info: MaybeServiceInfo {

@@ -1,4 +1,6 @@
 // One line of a tape: its first letter says which operation it is.
+ghost use mathlib.Core.Path.{_≡_};
+ghost use Rattle.tape.specs.State.{firstState};
 use crate::calls;
 use crate::packet;
 use crate::packet_write;
@@ -16,7 +18,9 @@ pub struct State {
 }
 
 impl State {
-    pub fn first() -> Self {
+    pub fn first() -> Self
+        ensures { λ r. ⌜ r ≡ firstState ⌝ }
+    {
         let parser = CDPParser::new();
         Self {
             length: 0,

@@ -1,5 +1,10 @@
 // Digests of what is too much to print.
+ghost use mathlib.Core.Path.{_≡_};
+ghost use Rattle.report.specs.Digest.{swept};
+ghost use Rattle.values_sweep.specs.Sweep as Sweep;
+use report::all_fed;
 use report::feed;
+use report::two_fed;
 use times::TimeCode;
 
 // What a digest goes over.
@@ -12,15 +17,21 @@ enum Block {
     Sequences,
 }
 
-pub fn times(hours: u64) -> u64 {
+pub fn times(hours: u64) -> u64
+    ensures { λ r. ⌜ r ≡ Sweep.timesDigest hours ⌝ }
+{
     over(Block::Times, hours, 1076004)
 }
 
-pub fn sequences(high: u64) -> u64 {
+pub fn sequences(high: u64) -> u64
+    ensures { λ r. ⌜ r ≡ Sweep.sequencesDigest high ⌝ }
+{
     over(Block::Sequences, high, 256)
 }
 
-fn over(block: Block, first: u64, count: u64) -> u64 {
+fn over(block: Block, first: u64, count: u64) -> u64
+    ensures { λ r. ⌜ r ≡ swept (Sweep.stepOf block first) count ⌝ }
+{
     let mut digest = 0;
     for n in 0..count {
         digest = fed(block, digest, first, n);
@@ -28,14 +39,18 @@ fn over(block: Block, first: u64, count: u64) -> u64 {
     digest
 }
 
-fn fed(block: Block, digest: u64, first: u64, n: u64) -> u64 {
+fn fed(block: Block, digest: u64, first: u64, n: u64) -> u64
+    ensures { λ r. ⌜ r ≡ Sweep.stepOf block first digest n ⌝ }
+{
     match block {
         Block::Times => time_fed(digest, first, n),
         Block::Sequences => sequence_fed(digest, first, n),
     }
 }
 
-fn time_fed(digest: u64, hours: u64, n: u64) -> u64 {
+fn time_fed(digest: u64, hours: u64, n: u64) -> u64
+    ensures { λ r. ⌜ r ≡ Sweep.timeFed hours digest n ⌝ }
+{
     let time = TimeCode::new(
         (hours % 256) as u8,
         (n / 13284 % 81) as u8,
@@ -50,13 +65,12 @@ fn time_fed(digest: u64, hours: u64, n: u64) -> u64 {
     if !written.answer.is_done() {
         return fed;
     }
-    feed(
-        feed(feed(feed(fed, bytes[0]), bytes[1]), bytes[2]),
-        bytes[3],
-    )
+    all_fed(fed, &bytes)
 }
 
-fn sequence_fed(digest: u64, high: u64, low: u64) -> u64 {
+fn sequence_fed(digest: u64, high: u64, low: u64) -> u64
+    ensures { λ r. ⌜ r ≡ Sweep.sequenceFed high digest low ⌝ }
+{
     let made = values::sequence_bytes((high % 256 * 256 + low % 256) as u16);
     let packet = [
         0x96u8,
@@ -74,6 +88,5 @@ fn sequence_fed(digest: u64, high: u64, low: u64) -> u64 {
     ];
     let checksum = values::checksum_byte(&packet);
     let back = values::sequence_count(made[0], made[1]);
-    let fed = feed(feed(feed(digest, made[0]), made[1]), checksum);
-    feed(feed(fed, (back / 256) as u8), (back % 256) as u8)
+    two_fed(feed(all_fed(digest, &made), checksum), back as u64)
 }

@@ -15,7 +15,7 @@ pub fn hex(byte: u8) {
     io::print_hex(STDOUT_FILENO, byte as u64, 2);
 }
 
-pub fn bit(on: bool) {
+fn bit(on: bool) {
     if on {
         word(b"1");
     } else {

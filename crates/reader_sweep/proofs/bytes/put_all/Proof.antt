@@ -1,20 +1,24 @@
--- The putting ends after the last byte. The buffer keeps its length.
+-- `reader_sweep::bytes::put_all`: after k turns the first k bytes are put.
 -- Assumes nothing.
-use borrow.Author.Needs.{needs}
 use mathlib.Core.Path.{_≡_}
 use Prim.Native.Nat.{_≤_, _-_}
-use lib.ListN.{length}
+use lib.ListN.{length, take}
+use lib.Seq.{take-all}
+use Rattle.reader_sweep.specs.Room.{Put}
+use Rattle.reader_sweep.proofs.Rooms.{behind-as, nothing, one-more}
+use native.Mathlib.Omega.{arith}
+use borrow.Author.Needs.{needs}
 use Rattle.reader_sweep.proofs.bytes.put_all.Statement.{statement}
 use Rattle.reader_sweep.proofs.bytes.put_all.Tie as tie
 
 abbrev Inv-loop : tie.InvT-loop
-Inv-loop out₀ from bytes at₀ k₀ k-end out at k = (k ≤ length bytes) × (length out ≡ length out₀)
+Inv-loop out₀ from bytes at₀ k₀ k-end out at k = (k ≤ length bytes) × (length out ≡ length out₀) × Put from (take k bytes) out₀ at out
 
 abbrev μ-loop : tie.MeasureT-loop
 μ-loop out₀ from bytes at₀ k₀ k-end out at k = length bytes - k
 
 loop-holds : tie.Need-loop-holds Inv-loop μ-loop
-loop-holds c = search needs
+loop-holds c = (omega arith, omega arith, nothing _ _)
 
 shared-slice-read-put : tie.Need-shared-slice-read-put Inv-loop μ-loop
 shared-slice-read-put c = search needs
@@ -29,13 +33,18 @@ loop-less : tie.Need-loop-less Inv-loop μ-loop
 loop-less c = search needs
 
 loop-again : tie.Need-loop-again Inv-loop μ-loop
-loop-again c = search needs
+loop-again c =
+    let s = c .before .before in
+    let t = s .before .before .before .before in
+    (omega arith, omega arith, behind-as (t .loop .inv .2) (s .put .ensures) (one-more (t .before .before .before .args .bytes .now) (t .loop .k) (omega arith)))
 
 same-length : tie.Need-same-length Inv-loop μ-loop
 same-length c = search needs
 
 returns : tie.Need-returns Inv-loop μ-loop
-returns c = search needs
+returns c =
+    let h : length (c .before .before .before .before .args .bytes .now) ≤ c .before .loop .k = omega arith in
+    rw take-all at (c .before .loop .inv .2)
 
 pub put-all-spec : {M : Type 1} → statement M
 put-all-spec =

@@ -1,20 +1,23 @@
--- The putting ends after the last time. The buffer keeps its length.
+-- `reader_sweep::bytes::repeat`: after k turns the byte is put k times.
 -- Assumes nothing.
-use borrow.Author.Needs.{needs}
 use mathlib.Core.Path.{_≡_}
 use Prim.Native.Nat.{_≤_, _-_}
-use lib.ListN.{length}
+use lib.ListN.{length, replicate}
+use Rattle.reader_sweep.specs.Room.{Put}
+use Rattle.reader_sweep.proofs.Rooms.{again, behind-as, nothing}
+use native.Mathlib.Omega.{arith}
+use borrow.Author.Needs.{needs}
 use Rattle.reader_sweep.proofs.bytes.repeat.Statement.{statement}
 use Rattle.reader_sweep.proofs.bytes.repeat.Tie as tie
 
 abbrev Inv-loop : tie.InvT-loop
-Inv-loop out₀ from byte count at₀ k₀ out at k = (k ≤ count) × (length out ≡ length out₀)
+Inv-loop out₀ from byte count at₀ k₀ out at k = (k ≤ count) × (length out ≡ length out₀) × Put from (replicate k byte) out₀ at out
 
 abbrev μ-loop : tie.MeasureT-loop
 μ-loop out₀ from byte count at₀ k₀ out at k = count - k
 
 loop-holds : tie.Need-loop-holds Inv-loop μ-loop
-loop-holds c = search needs
+loop-holds c = (omega arith, omega arith, nothing _ _)
 
 put-requires : tie.Need-put-requires Inv-loop μ-loop
 put-requires c κs = search needs
@@ -26,13 +29,18 @@ loop-less : tie.Need-loop-less Inv-loop μ-loop
 loop-less c = search needs
 
 loop-again : tie.Need-loop-again Inv-loop μ-loop
-loop-again c = search needs
+loop-again c =
+    let s = c .before .before in
+    let t = s .before .before .before in
+    (omega arith, omega arith, behind-as (t .loop .inv .2) (s .put .ensures) (again (t .loop .k) (t .before .before .args .byte)))
 
 same-length : tie.Need-same-length Inv-loop μ-loop
 same-length c = search needs
 
 returns : tie.Need-returns Inv-loop μ-loop
-returns c = search needs
+returns c =
+    let e : c .before .loop .k ≡ c .before .before .before .args .count = omega arith in
+    rw e at (c .before .loop .inv .2)
 
 pub repeat-spec : {M : Type 1} → statement M
 repeat-spec =

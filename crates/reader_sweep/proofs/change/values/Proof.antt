@@ -1,22 +1,25 @@
--- The tally ends after the last value. Both buffers keep their length.
+-- `reader_sweep::change::values`: after so many turns so many values are read.
 -- Assumes nothing.
-use borrow.Author.Needs.{needs}
 use mathlib.Core.Path.{_≡_}
 use Prim.Native.Nat.{_≤_, _-_}
 use lib.ListN.{length}
+use Rattle.reader_sweep.specs.Change.{start, valuesAfter}
+use Rattle.reader_sweep.proofs.Changes.{stand, values-all, values-more, values-none}
+use native.Mathlib.Omega.{arith}
+use borrow.Author.Needs.{needs}
 use Rattle.reader_sweep.proofs.change.values.Statement.{statement}
 use Rattle.reader_sweep.proofs.change.values.Tie as tie
 
 abbrev Inv-loop : tie.InvT-loop
 Inv-loop held packet₀ change captions₀ tally₀ value₀ packet captions tally value =
     (value ≤ 256) × (length packet ≡ length packet₀) × (length captions ≡ length captions₀)
+    × (stand tally packet captions ≡ valuesAfter held change (start packet₀ captions₀) value)
 
 abbrev μ-loop : tie.MeasureT-loop
-μ-loop held packet₀ change captions₀ tally₀ value₀ packet captions tally value =
-    256 - value
+μ-loop held packet₀ change captions₀ tally₀ value₀ packet captions tally value = 256 - value
 
 loop-holds : tie.Need-loop-holds Inv-loop μ-loop
-loop-holds c = search needs
+loop-holds c = (omega arith, omega arith, omega arith, values-none _ _ _)
 
 changed-requires : tie.Need-changed-requires Inv-loop μ-loop
 changed-requires c κs = search needs
@@ -28,7 +31,11 @@ loop-less : tie.Need-loop-less Inv-loop μ-loop
 loop-less c = search needs
 
 loop-again : tie.Need-loop-again Inv-loop μ-loop
-loop-again c = search needs
+loop-again c =
+    let s = c .before .before .before .before in
+    let t = s .before .before .before .before in
+    let e = s .changed .ensures in
+    (omega arith, search needs, search needs, values-more _ _ _ _ _ _ _ _ _ _ (t .loop .inv .3) (e .0) (e .1 .0) (e .1 .1))
 
 same-length : tie.Need-same-length Inv-loop μ-loop
 same-length c = search needs
@@ -37,7 +44,7 @@ same-length-2 : tie.Need-same-length-2 Inv-loop μ-loop
 same-length-2 c = search needs
 
 returns : tie.Need-returns Inv-loop μ-loop
-returns c = search needs
+returns c = values-all _ _ _ _ _ _ _ (c .before .loop .inv .3) (omega arith)
 
 pub values-spec : {M : Type 1} → statement M
 values-spec =

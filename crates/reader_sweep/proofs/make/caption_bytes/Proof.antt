@@ -1,20 +1,26 @@
--- The putting ends after the last byte. The buffer keeps its length.
+-- `reader_sweep::make::caption_bytes`: after k turns the first k bytes are put.
 -- Assumes nothing.
-use borrow.Author.Needs.{needs}
 use mathlib.Core.Path.{_≡_}
 use Prim.Native.Nat.{_≤_, _-_}
 use lib.ListN.{length}
+use Rattle.report.specs.Made.{made}
+use Rattle.report.proofs.Filling.{made-more, made-none}
+use Rattle.reader_sweep.specs.Make.{captionByte}
+use Rattle.reader_sweep.specs.Room.{Put}
+use Rattle.reader_sweep.proofs.Rooms.{behind-as, nothing}
+use native.Mathlib.Omega.{arith}
+use borrow.Author.Needs.{needs}
 use Rattle.reader_sweep.proofs.make.caption_bytes.Statement.{statement}
 use Rattle.reader_sweep.proofs.make.caption_bytes.Tie as tie
 
 abbrev Inv-loop : tie.InvT-loop
-Inv-loop out₀ from number count at₀ k₀ out at k = (k ≤ count) × (length out ≡ length out₀)
+Inv-loop out₀ from number count at₀ k₀ out at k = (k ≤ count) × (length out ≡ length out₀) × Put from (made (captionByte number) k) out₀ at out
 
 abbrev μ-loop : tie.MeasureT-loop
 μ-loop out₀ from number count at₀ k₀ out at k = count - k
 
 loop-holds : tie.Need-loop-holds Inv-loop μ-loop
-loop-holds c = search needs
+loop-holds c = (omega arith, omega arith, rw (made-none _) (nothing _ _))
 
 caption-byte-requires : tie.Need-caption-byte-requires Inv-loop μ-loop
 caption-byte-requires c κs = search needs
@@ -29,13 +35,18 @@ loop-less : tie.Need-loop-less Inv-loop μ-loop
 loop-less c = search needs
 
 loop-again : tie.Need-loop-again Inv-loop μ-loop
-loop-again c = search needs
+loop-again c =
+    let s = c .before .before in
+    let t = s .before .before .before .before in
+    (omega arith, omega arith, behind-as (t .loop .inv .2) (rw (s .before .caption-byte .ensures) at (s .put .ensures)) (made-more (captionByte _) _))
 
 same-length : tie.Need-same-length Inv-loop μ-loop
 same-length c = search needs
 
 returns : tie.Need-returns Inv-loop μ-loop
-returns c = search needs
+returns c =
+    let e : c .before .loop .k ≡ c .before .before .before .args .count = omega arith in
+    rw e at (c .before .loop .inv .2)
 
 pub caption-bytes-spec : {M : Type 1} → statement M
 caption-bytes-spec =

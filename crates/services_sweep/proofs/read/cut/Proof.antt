@@ -1,8 +1,8 @@
--- The part that is lent is as long as its end says.
+-- `services_sweep::read::cut`: the part that is lent is as long as its end says.
 -- Assumes nothing.
-use borrow.Author.Needs.{needs}
 use mathlib.Core.Path.{sym}
 use lib.Seq.{length-take-le}
+use borrow.Author.Needs.{needs}
 use Rattle.services_sweep.proofs.read.cut.Statement.{statement}
 use Rattle.services_sweep.proofs.read.cut.Tie as tie
 

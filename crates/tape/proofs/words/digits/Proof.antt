@@ -1,19 +1,21 @@
--- The digits end where the line ends, at the latest.
+-- `words::digits`: the digits before the place were read.
 -- Assumes nothing.
-use borrow.Author.Needs.{needs}
+use native.Mathlib.Omega.{arith}
 use Prim.Native.Nat.{_-_}
 use lib.ListN.{length}
+use Rattle.tape.proofs.WordReads.{DigitsRead, digits-ended, digits-next, digits-none, digits-stopped}
+use borrow.Author.Needs.{needs}
 use Rattle.tape.proofs.words.digits.Statement.{statement}
 use Rattle.tape.proofs.words.digits.Tie as tie
 
 abbrev Inv-loop : tie.InvT-loop
-Inv-loop line from value₀ at₀ value at = Unit {0}
+Inv-loop line from value₀ at₀ value at = DigitsRead line from value at
 
 abbrev μ-loop : tie.MeasureT-loop
 μ-loop line from value₀ at₀ value at = length line - at
 
 loop-holds : tie.Need-loop-holds Inv-loop μ-loop
-loop-holds c = search needs
+loop-holds c = digits-none _ _
 
 shared-slice-read-digit-of : tie.Need-shared-slice-read-digit-of Inv-loop μ-loop
 shared-slice-read-digit-of c = search needs
@@ -22,7 +24,7 @@ digit-of-requires : tie.Need-digit-of-requires Inv-loop μ-loop
 digit-of-requires c κs = search needs
 
 returns : tie.Need-returns Inv-loop μ-loop
-returns c = search needs
+returns c = digits-stopped (c .before .before .before .before .loop .inv) (omega arith) (omega (arith, c .before .digit-of .ensures))
 
 grown-requires : tie.Need-grown-requires Inv-loop μ-loop
 grown-requires c κs = search needs
@@ -34,10 +36,10 @@ loop-less : tie.Need-loop-less Inv-loop μ-loop
 loop-less c = search needs
 
 loop-again : tie.Need-loop-again Inv-loop μ-loop
-loop-again c = search needs
+loop-again c = digits-next (c .before .before .before .before .before .loop .inv) _ _ (omega arith) (c .before .before .digit-of .ensures) (omega arith) (c .grown .ensures)
 
 returns-2 : tie.Need-returns-2 Inv-loop μ-loop
-returns-2 c = search needs
+returns-2 c = digits-ended (c .before .loop .inv) (omega arith)
 
 pub digits-spec : {M : Type 1} → statement M
 digits-spec =

@@ -1,0 +1,5 @@
+pub mod Changes
+pub mod Mends
+pub mod Parts
+pub mod Rooms
+pub mod Rows

@@ -1,0 +1,55 @@
+-- Words of tapes, worked: lines of docs/TAPE.md and words at the limits.
+-- Assumes nothing.
+use mathlib.Core.Path.{_≡_, refl}
+use mathlib.Core.Bool.{true, false}
+use mathlib.Core.List.{List, [], _∷_}
+use Prim.Native.Nat.{ℕ}
+use Rattle.entries.specs.Service.{digitalEntry, entry}
+use Rattle.entries.specs.declared.service.FieldOrService.the-variants.{Field, Service}
+use Rattle.svc_entries.specs.Entries.{filled}
+use Rattle.services.specs.ServiceList.{list}
+use Rattle.times.specs.Time.{timeAbsent, timeCode, timePresent}
+use Rattle.tape.specs.Held.{clockAt, timeAt, timeWord}
+use Rattle.tape.specs.Lent.{roomOf}
+use Rattle.tape.specs.Lists.{digitalAt, entriesAt, entriesFrom, entryAt, entryWord, fieldAt, inLanguage, lastOf, listAt, listOf, listWord}
+use Rattle.tape.specs.Words.{byteAt, bytesAt, bytesWord, decimal, digitOf, digitsOf, flagAt, markAt, nowhere, numberAt, numberWord, pairsAt, pairsFrom, smallAt}
+
+-- `P 008 966`: zeros in front are allowed, and a digit too many is left
+abbrev packetLine : List ℕ
+packetLine = 80 ∷ 32 ∷ 48 ∷ 48 ∷ 56 ∷ 32 ∷ 57 ∷ 54 ∷ 54 ∷ []
+
+packet-room : roomOf packetLine ≡ numberWord 8 5
+unfolding markAt numberAt digitsOf digitOf decimal
+packet-room = refl
+
+packet-bytes : bytesAt 4096 packetLine 6 ≡ bytesWord 1 8
+unfolding bytesAt pairsAt pairsFrom byteAt digitOf markAt
+packet-bytes = refl
+
+-- `4294967295` is a number of 32 bits, `4294967296` is none
+largest : numberAt (52 ∷ 50 ∷ 57 ∷ 52 ∷ 57 ∷ 54 ∷ 55 ∷ 50 ∷ 57 ∷ 53 ∷ []) 0 4294967295 ≡ numberWord 4294967295 10
+unfolding numberAt digitsOf digitOf decimal
+largest = refl
+
+too-large : numberAt (52 ∷ 50 ∷ 57 ∷ 52 ∷ 57 ∷ 54 ∷ 55 ∷ 50 ∷ 57 ∷ 54 ∷ []) 0 4294967295 ≡ numberWord 0 nowhere
+unfolding numberAt digitsOf digitOf decimal
+too-large = refl
+
+-- `d:1:0:0:656e67`
+digital : entryAt (100 ∷ 58 ∷ 49 ∷ 58 ∷ 48 ∷ 58 ∷ 48 ∷ 58 ∷ 54 ∷ 53 ∷ 54 ∷ 101 ∷ 54 ∷ 55 ∷ []) 0 ≡ entryWord (entry (0x65 ∷ 0x6e ∷ 0x67 ∷ []) (Service (digitalEntry 1 false false))) 14
+unfolding entryAt digitalAt inLanguage smallAt numberAt digitsOf digitOf decimal flagAt byteAt markAt
+digital = refl
+
+-- `1,0,1;f:2:656e67`
+listed : listAt (49 ∷ 44 ∷ 48 ∷ 44 ∷ 49 ∷ 59 ∷ 102 ∷ 58 ∷ 50 ∷ 58 ∷ 54 ∷ 53 ∷ 54 ∷ 101 ∷ 54 ∷ 55 ∷ []) 0 ≡ listWord (list true false true (filled (entry (0x65 ∷ 0x6e ∷ 0x67 ∷ []) (Field false) ∷ [])) 1) 16
+unfolding listAt entriesAt entriesFrom lastOf listOf entryAt fieldAt inLanguage flagAt byteAt digitOf markAt
+listed = refl
+
+-- `-` and `1:2:3:4:0:1`
+no-time : timeAt (45 ∷ []) 0 ≡ timeWord timeAbsent 1
+unfolding timeAt markAt
+no-time = refl
+
+time : timeAt (49 ∷ 58 ∷ 50 ∷ 58 ∷ 51 ∷ 58 ∷ 52 ∷ 58 ∷ 48 ∷ 58 ∷ 49 ∷ []) 0 ≡ timeWord (timePresent (timeCode 1 2 3 4 false true)) 11
+unfolding timeAt clockAt smallAt numberAt digitsOf digitOf decimal flagAt markAt
+time = refl

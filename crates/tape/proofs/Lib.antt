@@ -1,0 +1,3 @@
+pub mod WordReads
+pub mod ListReads
+pub mod Cases
