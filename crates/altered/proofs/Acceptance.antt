@@ -26,7 +26,7 @@ use Rattle.time_section.specs.TimeCode.{timeCodeChecks, timeCodeOf}
 use Rattle.footer.proofs.FooterFound.{checksum-kept}
 use Rattle.footer.specs.Footer.{checksumOf, closingChecks}
 use Rattle.svc_section.proofs.SvcInfoAlone.{FlagsOf, alone}
-use Rattle.svc_section.specs.SvcInfo.{listWhere, svcInfoChecks, svcInfoOf, svcInfoSize}
+use Rattle.svc_section.specs.SvcInfo.{svcInfoChecks, svcInfoOf, svcInfoSize}
 use Rattle.checked.proofs.PacketReads.{closing-of-packet, in-order, svc-info-of-packet}
 use Rattle.checked.specs.Packet.{captionLength, ccDataAt, closingAt, footerAt, packetChecks, svcInfoAt}
 use Rattle.reader.specs.Shown.{shownBy, state}
@@ -170,8 +170,8 @@ module _ (p q : List ℕ) (a : Altered p q) where
       cleared true on = own-verdict on
       cleared false off = refl
 
-  list-new : svcInfoOf q (flagsIn q) (svcInfoAt q) ≡ newList p q
-  list-new = ap₂ (λ (b : Bool) (i : ℕ). listWhere b q i) serviced services-at
+  list-new : svcInfoOf q (flagsIn q .«svc_info») (svcInfoAt q) ≡ newList p q
+  list-new = ap₂ (λ (b : Bool) (i : ℕ). svcInfoOf q b i) serviced services-at
 
   -- what stands behind the services, and the whole
   closing-verdict : closingChecks q (sequenceIn q) (closingAt q) ≡ closingChecks p (sequenceIn p) (closingAt p)

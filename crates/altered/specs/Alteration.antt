@@ -77,4 +77,4 @@ abbrev pub newCaptions : List ℕ → List ℕ → List ℕ
 newCaptions p q = cond (flagsIn p .«cc_data») (handedOut q (ccDataAt p)) []
 
 abbrev pub newList : List ℕ → List ℕ → MaybeServiceInfo
-newList p q = svcInfoOf q (flagsIn p) (svcInfoAt p)
+newList p q = svcInfoOf q (flagsIn p .«svc_info») (svcInfoAt p)

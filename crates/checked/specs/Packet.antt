@@ -1,4 +1,4 @@
--- Rules 2 to 9, in their order: the places in a packet, its checks, and what is known of it.
+-- Rules 2 to 9, in their order: the places in a packet, and its checks.
 use mathlib.Core.List.{List, _++_}
 use Prim.Native.Nat.{ℕ, _+_}
 use lib.ListN.{length}

@@ -172,14 +172,15 @@ module _ (rate : Framerate) (time : MaybeTimeCode) (services : MaybeServiceInfo)
           unfolding packetTested servicesTested
           all-right h = ap (λ (u : Verdict). withLength u (packetLength time services run)) (sym (behind-time ∙ done-clear _ _ h))
 
--- an answer 0 is a clear verdict, with the packet's length beside it
-module _ (rate : Framerate) (time : MaybeTimeCode) (services : MaybeServiceInfo) (run : ℕ) where
-  pub packet-right : eqb (packetTested rate time services run .answer .number) 0 ≡ true
-      → (verdict (packetChecks rate time services run) ≡ clear) × (packetTested rate time services run .length ≡ packetLength time services run)
+-- where a packet's test gives an answer 0, its verdict is clear, and the packet's length stands beside it
+module _ (rate : Framerate) (time : MaybeTimeCode) (services : MaybeServiceInfo) (run : ℕ) (t : WriteTested) where
+  pub packet-right : t ≡ packetTested rate time services run → eqb (t .answer .number) 0 ≡ true
+      → (verdict (packetChecks rate time services run) ≡ clear) × (t .length ≡ packetLength time services run)
   unfolding packetTested
-  packet-right h =
+  packet-right e h =
       let v : Verdict = verdict (packetChecks rate time services run) in
-      (done-clear v 0 h, done-value v 0 (packetLength time services run) 0 h)
+      let h0 = rw e at h in
+      (done-clear v 0 h0, ap (λ (u : WriteTested). u .length) e ∙ done-value v 0 (packetLength time services run) 0 h0)
 
 -- what holds of a packet that can be written
 pub record Accepted (rate : Framerate) (time : MaybeTimeCode) (services : MaybeServiceInfo) (run : ℕ) : Type 0 where

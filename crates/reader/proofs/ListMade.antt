@@ -16,7 +16,7 @@ use Rattle.services.proofs.SectionReads as Lists
 use Rattle.services.specs.Section.{listOf, listWith}
 use Rattle.services.specs.ServiceList.{list, listAbsent, listPresent}
 use Rattle.svc_section.proofs.SvcInfoReads.{byte-one, count-at, section-there}
-use Rattle.svc_section.specs.SvcInfo.{listWhere, svcInfoBytes, svcInfoChecks, svcInfoOf, svcInfoSize}
+use Rattle.svc_section.specs.SvcInfo.{svcInfoBytes, svcInfoChecks, svcInfoOf, svcInfoSize}
 use Rattle.entries.specs.declared.entry.ServiceEntry.{ServiceEntry}
 use Rattle.services.specs.declared.list.MaybeServiceInfo.{MaybeServiceInfo}
 use Rattle.values.specs.declared.flags.Flags.{Flags}
@@ -81,7 +81,7 @@ module _ (p : List ℕ) (f : Flags) (i : ℕ) where
   fits true kept = omega (arith, there (kept refl))
   fits false kept = omega arith
 
-  is : (on : Bool) → (on ≡ true → verdict (svcInfoChecks p f i) ≡ clear) → made on ≡ listWhere on p i
+  is : (on : Bool) → (on ≡ true → verdict (svcInfoChecks p f i) ≡ clear) → made on ≡ svcInfoOf p on i
   is true kept = list-inside (kept refl)
   is false kept = list-absent
 
@@ -92,5 +92,5 @@ module _ (p : List ℕ) (f : Flags) (i : ℕ) where
     pub entries-fit : 7 * (headerOf (f .«svc_info») % 16) ≤ length p - (i + 2)
     entries-fit = fits (f .«svc_info») kept
 
-    pub list-is : made (f .«svc_info») ≡ svcInfoOf p f i
+    pub list-is : made (f .«svc_info») ≡ svcInfoOf p (f .«svc_info») i
     list-is = is (f .«svc_info») kept

@@ -70,6 +70,6 @@ module _ (p : List ℕ) where
       → f .«svc_info» ≡ true → verdict (svcInfoChecks p f i) ≡ clear
   kept-so f i v fe ie = rw (fe, ie) (list-kept v)
 
-  pub shown-is : state (rateOf p) (timeCodeOf p (flagsIn p .«time_code») 7) (sequenceIn p) (svcInfoOf p (flagsIn p) (svcInfoAt p)) ≡ shownBy p
+  pub shown-is : state (rateOf p) (timeCodeOf p (flagsIn p .«time_code») 7) (sequenceIn p) (svcInfoOf p (flagsIn p .«svc_info») (svcInfoAt p)) ≡ shownBy p
   unfolding shownBy
   shown-is = refl

@@ -1,4 +1,4 @@
--- What an accepted packet shows, and what reading one gives with no state.
+-- What a new reader shows, and what an accepted packet does.
 use mathlib.Core.List.{List}
 use Prim.Native.Nat.{ℕ}
 use Rattle.values.specs.Rate.{noRate}
@@ -27,4 +27,4 @@ shownBy p =
     state (rateOf p)
     (timeCodeOf p (flagsIn p .«time_code») timeCodeAt)
     (sequenceIn p)
-    (svcInfoOf p (flagsIn p) (svcInfoAt p))
+    (svcInfoOf p (flagsIn p .«svc_info») (svcInfoAt p))

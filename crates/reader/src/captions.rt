@@ -10,7 +10,7 @@ ghost use Rattle.reader.specs.Reader.{captionRoom};
 use basis::put;
 
 // Puts C0 + c, FF and the caption bytes of the section at a place at the start of the lent buffer; without a section,
-// nothing.
+// nothing. The room is asked for, so that no put refuses.
 pub(crate) fn hand_out(packet: &[u8], present: bool, at: u8, captions: &mut [u8])
     requires { ⌜ (present ≡ true → at + ccDataSize (now packet) at ≤ length (now packet)) ⌝ }
     requires { ⌜ captionRoom ≤ length (now captions) ⌝ }

@@ -24,7 +24,7 @@ pub(crate) fn list(packet: &[u8], flags: Flags, at: u8) -> MaybeServiceInfo
     requires { ⌜ verdict (packetChecks (now packet)) ≡ clear ⌝ }
     requires { ⌜ flags ≡ flagsIn (now packet) ⌝ }
     requires { ⌜ at ≡ svcInfoAt (now packet) ⌝ }
-    ensures { λ r. ⌜ r ≡ svcInfoOf (now (packet .entry)) flags at ⌝ }
+    ensures { λ r. ⌜ r ≡ svcInfoOf (now (packet .entry)) (flags .«svc_info») at ⌝ }
 {
     let i = at as usize;
     let header = header(packet, flags.svc_info, i + 1);

@@ -4,9 +4,8 @@ ghost use mathlib.Core.Bool.{true};
 ghost use Prim.Native.Nat.{_+_, _*_, _≤_};
 ghost use lib.ListN.{length};
 ghost use Rattle.basis.specs.Bytes as Bytes;
-ghost use Rattle.services.specs.Code.{allWritable};
 ghost use Rattle.services.specs.Writing as Writing;
-ghost use Rattle.services.specs.Code as Code;
+ghost use Rattle.services.specs.Code.{allWritable, valueAnswer};
 use crate::list::ServiceInfo;
 use basis::Answer;
 use basis::flag;
@@ -17,7 +16,7 @@ use values::Packet;
 impl ServiceInfo {
     // Whether the list can be written: its count, then its entries.
     pub fn writable(self) -> Answer
-        ensures { λ r. ⌜ r ≡ Code.valueAnswer self ⌝ }
+        ensures { λ r. ⌜ r ≡ valueAnswer self ⌝ }
     {
         let count = self.count;
         let services = self.services;

@@ -38,10 +38,6 @@ svcInfoChecks p f i =
     ∷ sectionChecks (svcInfoBytes p i)
     ++ check (sameFlags (listOf (svcInfoBytes p i)) f) ServiceFlagsMismatched ∷ []
 
--- the section's list, where there is one
-abbrev pub listWhere : Bool → List ℕ → ℕ → MaybeServiceInfo
-listWhere there p i = cond there (listPresent (listOf (svcInfoBytes p i))) listAbsent
-
--- absent where the flag is clear
-abbrev pub svcInfoOf : List ℕ → Flags → ℕ → MaybeServiceInfo
-svcInfoOf p f i = listWhere (f .«svc_info») p i
+-- the section's list, absent where there is no section
+abbrev pub svcInfoOf : List ℕ → Bool → ℕ → MaybeServiceInfo
+svcInfoOf p present i = cond present (listPresent (listOf (svcInfoBytes p i))) listAbsent

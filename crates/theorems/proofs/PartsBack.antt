@@ -18,7 +18,7 @@ use Rattle.services.specs.Writing.{counted, sectionBytes, valueChecks}
 use Rattle.services.specs.Code.{valueAnswer}
 use Rattle.time_section.specs.TimeCode.{timeCodeChecks, timeCodeOf}
 use Rattle.svc_section.proofs.SvcInfoAlone.{FlagsOf}
-use Rattle.svc_section.specs.SvcInfo.{listWhere, svcInfoChecks, svcInfoSize}
+use Rattle.svc_section.specs.SvcInfo.{svcInfoChecks, svcInfoOf, svcInfoSize}
 use Rattle.writer.specs.Writer.{heldTime}
 use Rattle.theorems.proofs.SectionsBack.{list-value, section-size, services-verdict, time-clear, time-value}
 use Rattle.theorems.specs.RoundTrip.{listBack}
@@ -45,7 +45,7 @@ ready l right =
 
 pub record ServicesHere (p : List ℕ) (i : ℕ) (f : Flags) (present : Bool) (l : ServiceInfo) : Type 0 where
   pub answered : verdict (when present (svcInfoChecks p f i)) ≡ named (present && namesFieldTwo (counted l))
-  pub shown : (present ≡ true → allOfThree (counted l) ≡ true) → listWhere present p i ≡ cond present (listPresent (listBack l)) listAbsent
+  pub shown : (present ≡ true → allOfThree (counted l) ≡ true) → svcInfoOf p present i ≡ cond present (listPresent (listBack l)) listAbsent
   pub size : sizeWhen present (svcInfoSize p i) ≡ sizeWhen present (sectionLength (l .count))
 
 pub services-here : (p : List ℕ) (i : ℕ) (f : Flags) (present : Bool) (l : ServiceInfo) (rest : List ℕ) → (present ≡ true → FlagsOf f l)

@@ -165,8 +165,8 @@ module _ (w : CDPWriter) (rate : Framerate) (captions : List ℕ)
   services-right : verdict (when (flagsIn p .«svc_info») (svcInfoChecks p (flagsIn p) (svcInfoAt p))) ≡ named (fieldTwo (w .«service_info»))
   services-right = ap₂ (λ (f : Flags) (i : ℕ). verdict (when (f .«svc_info») (svcInfoChecks p f i))) flags services-at ∙ services .answered
 
-  services-shown : Languages w → svcInfoOf p (flagsIn p) (svcInfoAt p) ≡ servicesBack (w .«service_info»)
-  services-shown languages = ap₂ (λ (f : Flags) (i : ℕ). svcInfoOf p f i) flags services-at ∙ services .shown languages
+  services-shown : Languages w → svcInfoOf p (flagsIn p .«svc_info») (svcInfoAt p) ≡ servicesBack (w .«service_info»)
+  services-shown languages = ap₂ (λ (f : Flags) (i : ℕ). svcInfoOf p (f .«svc_info») i) flags services-at ∙ services .shown languages
 
   -- the footer
   footer-at : closingAt p ≡ footerFrom

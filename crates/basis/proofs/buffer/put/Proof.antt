@@ -1,7 +1,6 @@
 -- `basis::put`: where the bytes do not fit, the answer alone; else the copy.
 -- Assumes nothing.
 use mathlib.Core.Logic.{⊎-elim}
-use mathlib.Core.Path.{_∙_}
 use native.Mathlib.Omega.{arith}
 use borrow.Author.Tests.{ltb-false, ltb-true}
 use Rattle.basis.proofs.Puts.{fits-clear, short-refused}

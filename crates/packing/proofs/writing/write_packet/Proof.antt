@@ -1,10 +1,8 @@
 -- `packing::write_packet`: the checks of the values, room, then the packet.
 -- Assumes nothing.
-use mathlib.Core.Path.{_∙_, ap, sym}
-use lib.ListN.{length}
+use mathlib.Core.Path.{_∙_, sym}
 use borrow.Author.Tests.{not-true, not-false}
 use Rattle.packet_checks.proofs.Tests.{packet-right}
-use Rattle.packet_checks.specs.declared.checks.WriteTested.{WriteTested}
 use Rattle.packing.proofs.PacketWrites.{packet-fits, packet-no-room, packet-refused}
 use borrow.Author.Needs.{needs}
 use Rattle.packing.proofs.writing.write_packet.Statement.{statement}
@@ -18,43 +16,21 @@ is-done-requires c κs = search needs
 
 returns : tie.Need-returns
 returns c =
-    let s = c .before .before .before .before .before .before in
-    let rate = s .args .framerate in
-    let time = s .args .time-code in
-    let services = s .args .service-info in
-    let captions = s .args .captions .now in
-    let buffer = s .args .out .now in
     let e = c .before .before .before .writable .ensures in
-    rw e (packet-refused rate (s .args .sequence) time services captions buffer (rw e at (sym (c .before .is-done .ensures) ∙ not-true _ (c .if1 .taken))))
+    rw e (packet-refused _ _ _ _ _ _ (rw e at (sym (c .before .is-done .ensures) ∙ not-true _ (c .if1 .taken))))
 
 buffer-too-short-requires : tie.Need-buffer-too-short-requires
 buffer-too-short-requires c κs = search needs
 
 returns-2 : tie.Need-returns-2
 returns-2 c =
-    let s = c .before .before .before .before .before .before .before .before in
-    let rate = s .args .framerate in
-    let time = s .args .time-code in
-    let services = s .args .service-info in
-    let captions = s .args .captions .now in
-    let buffer = s .args .out .now in
-    let e = c .before .before .before .before .before .writable .ensures in
-    let both = packet-right rate time services (length captions) (rw e at (sym (c .before .before .before .is-done .ensures) ∙ not-false _ (c .before .before .if1 .left))) in
-    let long = ap (λ (t : WriteTested). t .length) e ∙ both .1 in
-    rw (c .buffer-too-short .ensures, long) (packet-no-room rate (s .args .sequence) time services captions buffer (both .0) (rw long at (c .before .if2 .taken)))
+    let both = packet-right _ _ _ _ _ (c .before .before .before .before .before .writable .ensures) (sym (c .before .before .before .is-done .ensures) ∙ not-false _ (c .before .before .if1 .left)) in
+    rw (c .buffer-too-short .ensures, both .1) (packet-no-room _ _ _ _ _ _ (both .0) (rw (both .1) at (c .before .if2 .taken)))
 
 put-packet-requires : tie.Need-put-packet-requires
 put-packet-requires c κs =
-    let s = c .before .before .before .before .before .before .before .before in
-    let rate = s .args .framerate in
-    let time = s .args .time-code in
-    let services = s .args .service-info in
-    let captions = s .args .captions .now in
-    let buffer = s .args .out .now in
-    let e = c .before .before .before .before .before .writable .ensures in
-    let both = packet-right rate time services (length captions) (rw e at (sym (c .before .before .before .is-done .ensures) ∙ not-false _ (c .before .before .if1 .left))) in
-    let long = ap (λ (t : WriteTested). t .length) e ∙ both .1 in
-    (both .0, (long, c .before .if2 .left))
+    let both = packet-right _ _ _ _ _ (c .before .before .before .before .before .writable .ensures) (sym (c .before .before .before .is-done .ensures) ∙ not-false _ (c .before .before .if1 .left)) in
+    (both .0, (both .1, c .before .if2 .left))
 
 done-requires : tie.Need-done-requires
 done-requires c κs = search needs
@@ -64,16 +40,10 @@ same-length c = search needs
 
 returns-3 : tie.Need-returns-3
 returns-3 c =
-    let s = c .before .before .before .before .before .before .before .before .before .before .before .before in
-    let rate = s .args .framerate in
-    let time = s .args .time-code in
-    let services = s .args .service-info in
-    let captions = s .args .captions .now in
-    let buffer = s .args .out .now in
-    let e = c .before .before .before .before .before .before .before .before .before .writable .ensures in
-    let both = packet-right rate time services (length captions) (rw e at (sym (c .before .before .before .before .before .before .before .is-done .ensures) ∙ not-false _ (c .before .before .before .before .before .before .if1 .left))) in
-    let long = ap (λ (t : WriteTested). t .length) e ∙ both .1 in
-    rw (c .done .ensures, long, c .before .before .before .put-packet .ensures) (packet-fits rate (s .args .sequence) time services captions buffer (both .0) (rw long at (c .before .before .before .before .before .if2 .left)))
+    let s = c .before .before .before in
+    let t = s .before .before .before .before in
+    let both = packet-right _ _ _ _ _ (t .before .before .writable .ensures) (sym (t .is-done .ensures) ∙ not-false _ (s .before .before .before .if1 .left)) in
+    rw (c .done .ensures, both .1, s .put-packet .ensures) (packet-fits _ _ _ _ _ _ (both .0) (rw (both .1) at (s .before .before .if2 .left)))
 
 pub write-packet-spec : {M : Type 1} → statement M
 write-packet-spec =

@@ -4,10 +4,6 @@ use Rattle.report.specs.Digest.{entryFed}
 use borrow.Author.Needs.{needs}
 use Rattle.report.proofs.digest.entry_fed.Statement.{statement}
 use Rattle.report.proofs.digest.entry_fed.Tie as tie
-use Rattle.report.proofs.digest.entry_fed.Reads as reads
-use Rattle.report.proofs.digest.entry_fed.Lts as lts
-use Rattle.report.proofs.digest.feed.Reads as feed-reads
-use Rattle.report.proofs.digest.service_fed.Reads as service-fed-reads
 
 array-read-feed : tie.Need-array-read-feed
 array-read-feed c = search needs

@@ -4,8 +4,6 @@ use Rattle.report.specs.Digest.{fed}
 use borrow.Author.Needs.{needs}
 use Rattle.report.proofs.digest.feed.Statement.{statement}
 use Rattle.report.proofs.digest.feed.Tie as tie
-use Rattle.report.proofs.digest.feed.Reads as reads
-use Rattle.report.proofs.digest.feed.Lts as lts
 
 mul-result : tie.Need-mul-result
 mul-result c = search needs

@@ -3,9 +3,6 @@
 use borrow.Author.Needs.{needs}
 use Rattle.report.proofs.digest.flag_fed.Statement.{statement}
 use Rattle.report.proofs.digest.flag_fed.Tie as tie
-use Rattle.report.proofs.digest.flag_fed.Reads as reads
-use Rattle.report.proofs.digest.flag_fed.Lts as lts
-use Rattle.report.proofs.digest.feed.Reads as feed-reads
 
 feed-requires : tie.Need-feed-requires
 feed-requires c κs = search needs

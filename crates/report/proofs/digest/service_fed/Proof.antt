@@ -3,10 +3,6 @@
 use borrow.Author.Needs.{needs}
 use Rattle.report.proofs.digest.service_fed.Statement.{statement}
 use Rattle.report.proofs.digest.service_fed.Tie as tie
-use Rattle.report.proofs.digest.service_fed.Reads as reads
-use Rattle.report.proofs.digest.service_fed.Lts as lts
-use Rattle.report.proofs.digest.feed.Reads as feed-reads
-use Rattle.report.proofs.digest.flag_fed.Reads as flag-fed-reads
 
 enum-known-service : tie.Need-enum-known-service
 enum-known-service c = search needs

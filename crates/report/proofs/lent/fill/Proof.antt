@@ -1,7 +1,7 @@
 -- `report::fill`: after k turns the first k bytes are filled.
 -- Assumes nothing.
 use mathlib.Core.Path.{_≡_, _∙_, sym}
-use mathlib.Core.List.{List, [], append-nil}
+use mathlib.Core.List.{List, append-nil}
 use Prim.Native.Nat.{ℕ, _+_, _≤_, _-_, _<_}
 use native.Mathlib.Nat.{zero-add}
 use native.Mathlib.Omega.{arith}
