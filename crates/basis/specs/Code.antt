@@ -1,4 +1,4 @@
--- Follows the code and not the rules: what testing a part gives, what putting bytes leaves, and the constants that are held.
+-- Follows the code and not the rules: what testing a part gives, what putting bytes leaves, and the answerConstants that are held.
 use mathlib.Core.List.{List, [], _∷_}
 use Prim.Native.Nat.{ℕ, _-_}
 use lib.ListN.{length}
@@ -31,8 +31,8 @@ unfoldable pub put : ℕ → List ℕ → List ℕ → List ℕ
 put at bytes buffer = ifClear (fitting at bytes buffer) (over at bytes buffer) buffer
 
 -- the refusals whose two values are always the same, in the order of the table
-abbrev pub constants : List Answer
-constants =
+abbrev pub answerConstants : List Answer
+answerConstants =
     refused WrongMagic
     ∷ refused UnknownFramerate
     ∷ refused InvalidFixedBits

@@ -8,8 +8,8 @@ pub record Mask : Type 0 where
   pub ones : ℕ
   pub below : ℕ
 
-abbrev pub run : ℕ → ℕ → Mask
-run ones below = record { ones = ones; below = below }
+abbrev pub bitRun : ℕ → ℕ → Mask
+bitRun ones below = record { ones = ones; below = below }
 
 -- the mask as the number that the rules write
 abbrev pub value : Mask → ℕ
@@ -33,49 +33,49 @@ flag on mask = cond on mask 0
 
 -- the masks of the rules; proofs/Masks.antt ties each to its number and to b & mask
 abbrev pub x80 : Mask
-x80 = run 1 7
+x80 = bitRun 1 7
 
 abbrev pub x40 : Mask
-x40 = run 1 6
+x40 = bitRun 1 6
 
 abbrev pub x20 : Mask
-x20 = run 1 5
+x20 = bitRun 1 5
 
 abbrev pub x10 : Mask
-x10 = run 1 4
+x10 = bitRun 1 4
 
 abbrev pub x08 : Mask
-x08 = run 1 3
+x08 = bitRun 1 3
 
 abbrev pub x04 : Mask
-x04 = run 1 2
+x04 = bitRun 1 2
 
 abbrev pub xC0 : Mask
-xC0 = run 2 6
+xC0 = bitRun 2 6
 
 abbrev pub xE0 : Mask
-xE0 = run 3 5
+xE0 = bitRun 3 5
 
 abbrev pub xF0 : Mask
-xF0 = run 4 4
+xF0 = bitRun 4 4
 
 abbrev pub x70 : Mask
-x70 = run 3 4
+x70 = bitRun 3 4
 
 abbrev pub x30 : Mask
-x30 = run 2 4
+x30 = bitRun 2 4
 
 abbrev pub x3F : Mask
-x3F = run 6 0
+x3F = bitRun 6 0
 
 abbrev pub x3E : Mask
-x3E = run 5 1
+x3E = bitRun 5 1
 
 abbrev pub x1F : Mask
-x1F = run 5 0
+x1F = bitRun 5 0
 
 abbrev pub x0F : Mask
-x0F = run 4 0
+x0F = bitRun 4 0
 
 abbrev pub x01 : Mask
-x01 = run 1 0
+x01 = bitRun 1 0

@@ -133,7 +133,7 @@ impl Answer {
 
     // Nothing calls this: its contract holds every constant above to the table.
     fn held() -> [Self; 11]
-        ensures { λ r. ⌜ r ≡ Code.constants ⌝ }
+        ensures { λ r. ⌜ r ≡ Code.answerConstants ⌝ }
     {
         [
             Self::WRONG_MAGIC,

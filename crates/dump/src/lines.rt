@@ -6,8 +6,8 @@ use crate::print::number;
 use crate::print::word;
 use basis::Answer;
 use reader::CDPParser;
-use times::MaybeTimeCode;
 use values::MaybeFramerate;
+use values_time::MaybeTimeCode;
 
 // Of the answers that a packet can get, 1 alone has two numbers to show; the length beside 0 shows in the captions.
 pub fn answer(shown: Answer) {

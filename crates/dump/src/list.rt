@@ -3,10 +3,10 @@ use crate::print::byte;
 use crate::print::flag;
 use crate::print::number;
 use crate::print::word;
-use services::DigitalServiceEntry;
-use services::FieldOrService;
-use services::MaybeServiceInfo;
-use services::ServiceEntry;
+use service_list::DigitalServiceEntry;
+use service_list::FieldOrService;
+use service_list::MaybeServiceInfo;
+use service_list::ServiceEntry;
 
 pub fn services(shown: MaybeServiceInfo) {
     if !shown.present {

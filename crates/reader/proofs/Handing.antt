@@ -10,7 +10,7 @@ use lib.Seq.{length-take-le}
 use Rattle.basis.proofs.Puts.{over-nil, put-put}
 use Rattle.basis.specs.Bytes.{byte, over, part}
 use Rattle.basis.specs.Code.{put}
-use Rattle.cc_section.specs.CcData.{handedOut}
+use Rattle.read_captions.specs.Captions.{handedOut}
 
 module _ (p : List ℕ) (i : ℕ) (buffer : List ℕ) (present : Bool) where
   -- what is left of the buffer

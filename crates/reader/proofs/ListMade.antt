@@ -10,15 +10,15 @@ use lib.ListN.{length}
 use Rattle.basis.proofs.Places.{byte-of-part}
 use Rattle.basis.specs.Bytes.{byte, part}
 use Rattle.basis.specs.Check.{clear, verdict}
-use Rattle.entries.specs.Entry.{entryOf}
-use Rattle.svc_entries.specs.Entries.{countOf, entriesOf, filled, sixBehind}
-use Rattle.services.proofs.SectionReads as Lists
-use Rattle.services.specs.Section.{listOf, listWith}
-use Rattle.services.specs.ServiceList.{list, listAbsent, listPresent}
-use Rattle.svc_section.proofs.SvcInfoReads.{byte-one, count-at, section-there}
-use Rattle.svc_section.specs.SvcInfo.{svcInfoBytes, svcInfoChecks, svcInfoOf, svcInfoSize}
-use Rattle.entries.specs.declared.entry.ServiceEntry.{ServiceEntry}
-use Rattle.services.specs.declared.list.MaybeServiceInfo.{MaybeServiceInfo}
+use Rattle.service_entry.specs.Entry.{entryOf}
+use Rattle.service_entries.specs.Entries.{countOf, entriesOf, filled, sixBehind}
+use Rattle.service_list.proofs.SectionReads as Lists
+use Rattle.service_list.specs.Section.{listOf, listWith}
+use Rattle.service_list.specs.ServiceList.{list, listAbsent, listPresent}
+use Rattle.read_services.proofs.ServicesReads.{byte-one, count-at, section-there}
+use Rattle.read_services.specs.Services.{servicesPart, servicesChecks, servicesOf, servicesSize}
+use Rattle.service_entry.specs.declared.entry.ServiceEntry.{ServiceEntry}
+use Rattle.service_list.specs.declared.list.MaybeServiceInfo.{MaybeServiceInfo}
 use Rattle.values.specs.declared.flags.Flags.{Flags}
 
 -- entries of a part of a packet are entries of the packet
@@ -57,40 +57,40 @@ module _ (p : List ℕ) (f : Flags) (i : ℕ) where
             list (eqb (headerOf on / 64 % 2) 1) (eqb (headerOf on / 32 % 2) 1) (eqb (headerOf on / 16 % 2) 1) (filled (entriesOf p (i + 2) (headerOf on % 16))) (headerOf on % 16);
       }
 
-  module _ (kept : verdict (svcInfoChecks p f i) ≡ clear) where
-    there : i + svcInfoSize p i ≤ length p
+  module _ (kept : verdict (servicesChecks p f i) ≡ clear) where
+    there : i + servicesSize p i ≤ length p
     there = section-there p f i kept
 
-    count-is : countOf (svcInfoBytes p i) ≡ byte p (i + 1) % 16
+    count-is : countOf (servicesPart p i) ≡ byte p (i + 1) % 16
     count-is = omega (arith, count-at p i)
 
-    list-inside : made true ≡ listPresent (listOf (svcInfoBytes p i))
+    list-inside : made true ≡ listPresent (listOf (servicesPart p i))
     list-inside =
-        let places : entriesOf p (i + 2) (byte p (i + 1) % 16) ≡ entriesOf (svcInfoBytes p i) 2 (countOf (svcInfoBytes p i)) =
-        entries-inside p i (svcInfoSize p i) 2 (byte p (i + 1) % 16) (omega arith) ∙ ap (entriesOf (svcInfoBytes p i) 2) (sym count-is) in
+        let places : entriesOf p (i + 2) (byte p (i + 1) % 16) ≡ entriesOf (servicesPart p i) 2 (countOf (servicesPart p i)) =
+        entries-inside p i (servicesSize p i) 2 (byte p (i + 1) % 16) (omega arith) ∙ ap (entriesOf (servicesPart p i) 2) (sym count-is) in
         ap listPresent
         (Lists.with-is (byte p (i + 1)) (filled (entriesOf p (i + 2) (byte p (i + 1) % 16)))
         ∙ ap₂ listWith (sym (byte-one p i)) (ap filled places)
-        ∙ Lists.list-is (svcInfoBytes p i))
+        ∙ Lists.list-is (servicesPart p i))
 
   list-absent : made false ≡ listAbsent
   unfolding filled
   list-absent = refl
 
-  fits : (on : Bool) → (on ≡ true → verdict (svcInfoChecks p f i) ≡ clear) → 7 * (headerOf on % 16) ≤ length p - (i + 2)
+  fits : (on : Bool) → (on ≡ true → verdict (servicesChecks p f i) ≡ clear) → 7 * (headerOf on % 16) ≤ length p - (i + 2)
   fits true kept = omega (arith, there (kept refl))
   fits false kept = omega arith
 
-  is : (on : Bool) → (on ≡ true → verdict (svcInfoChecks p f i) ≡ clear) → made on ≡ svcInfoOf p on i
+  is : (on : Bool) → (on ≡ true → verdict (servicesChecks p f i) ≡ clear) → made on ≡ servicesOf p on i
   is true kept = list-inside (kept refl)
   is false kept = list-absent
 
-  module _ (kept : f .«svc_info» ≡ true → verdict (svcInfoChecks p f i) ≡ clear) where
+  module _ (kept : f .«svc_info» ≡ true → verdict (servicesChecks p f i) ≡ clear) where
     pub header-there : f .«svc_info» ≡ true → i + 1 + 1 ≤ length p
     header-there on = omega (arith, there (kept on))
 
     pub entries-fit : 7 * (headerOf (f .«svc_info») % 16) ≤ length p - (i + 2)
     entries-fit = fits (f .«svc_info») kept
 
-    pub list-is : made (f .«svc_info») ≡ svcInfoOf p (f .«svc_info») i
+    pub list-is : made (f .«svc_info») ≡ servicesOf p (f .«svc_info») i
     list-is = is (f .«svc_info») kept

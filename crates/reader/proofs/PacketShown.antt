@@ -8,17 +8,17 @@ use lib.Dec.{eqb}
 use Rattle.basis.proofs.Verdicts.{done-clear, done-value, when-there}
 use Rattle.basis.specs.Answer.{done}
 use Rattle.basis.specs.Check.{Verdict, answer, broken, clear, ifClear, verdict}
-use Rattle.header.specs.Header.{flagsIn, rateOf, sequenceIn}
-use Rattle.time_section.specs.TimeCode.{timeCodeOf}
-use Rattle.svc_section.specs.SvcInfo.{svcInfoChecks, svcInfoOf}
-use Rattle.checked.proofs.PacketReads.{given, svc-info-of-packet}
-use Rattle.checked.specs.Packet.{captionLength, ccDataAt, packetChecks, svcInfoAt}
-use Rattle.checked.specs.Code.{checkedRead, checkedShown, refusedChecked}
-use Rattle.reader.specs.Shown.{fresh, shownBy, state}
+use Rattle.read_header.specs.Header.{flagsIn, rateOf, sequenceIn}
+use Rattle.read_time_code.specs.TimeCode.{timeCodeOf}
+use Rattle.read_services.specs.Services.{servicesChecks, servicesOf}
+use Rattle.read_packet.proofs.PacketReads.{given, services-of-packet}
+use Rattle.read_packet.specs.Packet.{captionsLength, captionsAt, packetChecks, servicesAt}
+use Rattle.read_packet.specs.Code.{checkedRead, checkedShown, refusedChecked}
+use Rattle.reader.specs.Shown.{freshReader, shownBy, state}
 use Rattle.reader.specs.Code.{packetRead, refusedPacket}
-use Rattle.reader.specs.declared.packet.PacketRead.{PacketRead}
+use Rattle.reader.specs.declared.packet_read.PacketRead.{PacketRead}
 use Rattle.reader.specs.declared.parser.CDPParser.{CDPParser}
-use Rattle.checked.specs.declared.checked.Checked.{Checked}
+use Rattle.read_packet.specs.declared.checked.Checked.{Checked}
 use Rattle.values.specs.declared.flags.Flags.{Flags}
 
 -- a packet before its list is made has the same answer
@@ -28,33 +28,33 @@ given-answer (broken why) length shown e = refl
 
 -- a refused packet shows what a new reader does
 none : (v : Verdict) (length : ℕ) (s : CDPParser) (at : ℕ) → eqb (answer v length .number) 0 ≡ false
-    → _≡_ {A = PacketRead} (refusedPacket (answer v length)) (record { answer = answer v length; shown = ifClear v s fresh; «cc_data_at» = ifClear v at 0 })
+    → _≡_ {A = PacketRead} (refusedPacket (answer v length)) (record { answer = answer v length; shown = ifClear v s freshReader; «captions_at» = ifClear v at 0 })
 none clear length s at h = absurd (true≢false h)
 none (broken why) length s at h = refl
 
 module _ (p : List ℕ) where
   pub checks-answer : checkedRead p .answer ≡ packetRead p .answer
   unfolding packetRead checkedRead
-  checks-answer = given-answer (verdict (packetChecks p)) (captionLength p) (checkedShown p) refl
+  checks-answer = given-answer (verdict (packetChecks p)) (captionsLength p) (checkedShown p) refl
 
   pub accepts : eqb (packetRead p .answer .number) 0 ≡ true → checkedRead p ≡ checkedShown p
   unfolding packetRead checkedRead
-  accepts h = done-value (verdict (packetChecks p)) (captionLength p) (checkedShown p) (refusedChecked (answer (verdict (packetChecks p)) (captionLength p))) h
+  accepts h = done-value (verdict (packetChecks p)) (captionsLength p) (checkedShown p) (refusedChecked (answer (verdict (packetChecks p)) (captionsLength p))) h
 
   -- a packet's answer decides what it shows
   pub none-shown : eqb (packetRead p .answer .number) 0 ≡ false → refusedPacket (packetRead p .answer) ≡ packetRead p
   unfolding packetRead
-  none-shown h = none (verdict (packetChecks p)) (captionLength p) (shownBy p) (ccDataAt p) h
+  none-shown h = none (verdict (packetChecks p)) (captionsLength p) (shownBy p) (captionsAt p) h
 
   pub packet-clear : eqb (packetRead p .answer .number) 0 ≡ true → verdict (packetChecks p) ≡ clear
   unfolding packetRead
-  packet-clear h = done-clear (verdict (packetChecks p)) (captionLength p) h
+  packet-clear h = done-clear (verdict (packetChecks p)) (captionsLength p) h
 
   pub all-shown : eqb (packetRead p .answer .number) 0 ≡ true
-      → _≡_ {A = PacketRead} (record { answer = done (captionLength p); shown = shownBy p; «cc_data_at» = ccDataAt p }) (packetRead p)
+      → _≡_ {A = PacketRead} (record { answer = done (captionsLength p); shown = shownBy p; «captions_at» = captionsAt p }) (packetRead p)
   unfolding packetRead
   all-shown h =
-      let v : verdict (packetChecks p) ≡ clear = done-clear (verdict (packetChecks p)) (captionLength p) h in
+      let v : verdict (packetChecks p) ≡ clear = done-clear (verdict (packetChecks p)) (captionsLength p) h in
       rw v
 
   -- the packet's values, once its tests are clear
@@ -62,14 +62,14 @@ module _ (p : List ℕ) where
   unfolding checkedRead
   checked-clear v = rw v
 
-  list-kept : verdict (packetChecks p) ≡ clear → flagsIn p .«svc_info» ≡ true → verdict (svcInfoChecks p (flagsIn p) (svcInfoAt p)) ≡ clear
-  list-kept v on = when-there (flagsIn p .«svc_info») (svcInfoChecks p (flagsIn p) (svcInfoAt p)) on (svc-info-of-packet p v)
+  list-kept : verdict (packetChecks p) ≡ clear → flagsIn p .«svc_info» ≡ true → verdict (servicesChecks p (flagsIn p) (servicesAt p)) ≡ clear
+  list-kept v on = when-there (flagsIn p .«svc_info») (servicesChecks p (flagsIn p) (servicesAt p)) on (services-of-packet p v)
 
   -- the same of flags and a place that are the packet's
-  pub kept-so : (f : Flags) (i : ℕ) → verdict (packetChecks p) ≡ clear → f ≡ flagsIn p → i ≡ svcInfoAt p
-      → f .«svc_info» ≡ true → verdict (svcInfoChecks p f i) ≡ clear
+  pub kept-so : (f : Flags) (i : ℕ) → verdict (packetChecks p) ≡ clear → f ≡ flagsIn p → i ≡ servicesAt p
+      → f .«svc_info» ≡ true → verdict (servicesChecks p f i) ≡ clear
   kept-so f i v fe ie = rw (fe, ie) (list-kept v)
 
-  pub shown-is : state (rateOf p) (timeCodeOf p (flagsIn p .«time_code») 7) (sequenceIn p) (svcInfoOf p (flagsIn p .«svc_info») (svcInfoAt p)) ≡ shownBy p
+  pub shown-is : state (rateOf p) (timeCodeOf p (flagsIn p .«time_code») 7) (sequenceIn p) (servicesOf p (flagsIn p .«svc_info») (servicesAt p)) ≡ shownBy p
   unfolding shownBy
   shown-is = refl

@@ -11,15 +11,15 @@ use Rattle.basis.proofs.Verdicts.{refused-shows, when-there}
 use Rattle.basis.specs.Answer.{BufferTooShort, done, refused}
 use Rattle.basis.specs.Bytes.{over}
 use Rattle.basis.specs.Check.{Verdict, answer, clear, ifClear, sizeWhen, verdict}
-use Rattle.cc_section.proofs.CcDataReads.{captions-there, handed-long}
-use Rattle.cc_section.specs.CcData.{ccDataChecks, ccDataSize, handedOut}
-use Rattle.header.specs.Header.{flagsIn}
-use Rattle.checked.proofs.PacketReads.{cc-data-of-packet}
+use Rattle.read_captions.proofs.CaptionsReads.{captions-there, handed-long}
+use Rattle.read_captions.specs.Captions.{captionsChecks, captionsSize, handedOut}
+use Rattle.read_header.specs.Header.{flagsIn}
+use Rattle.read_packet.proofs.PacketReads.{captions-of-packet}
 use Rattle.reader.proofs.PacketShown.{all-shown, packet-clear}
-use Rattle.checked.specs.Packet.{captionLength, ccDataAt, packetChecks}
-use Rattle.reader.specs.Shown.{fresh, shownBy}
+use Rattle.read_packet.specs.Packet.{captionsLength, captionsAt, packetChecks}
+use Rattle.reader.specs.Shown.{freshReader, shownBy}
 use Rattle.reader.specs.Code.{packetRead}
-use Rattle.reader.specs.declared.packet.PacketRead.{PacketRead}
+use Rattle.reader.specs.declared.packet_read.PacketRead.{PacketRead}
 use Rattle.reader.specs.Reader.{bufferAfter, captionsOf, cleared, read}
 use Rattle.reader.specs.declared.parser.CDPParser.{CDPParser}
 use Rattle.reader.specs.declared.parser.CDPParserRead.{CDPParserRead}
@@ -29,16 +29,16 @@ abbrev result : Answer → CDPParser → CDPParserRead
 result a s = record { answer = a; parser = s }
 
 -- an accepted packet has all bytes of its captions, and as many are handed out as its answer says
-pub has-captions : (p : List ℕ) → verdict (packetChecks p) ≡ clear → flagsIn p .«cc_data» ≡ true → ccDataAt p + ccDataSize p (ccDataAt p) ≤ length p
-has-captions p h on = captions-there p (ccDataAt p) (when-there _ (ccDataChecks p (ccDataAt p)) on (cc-data-of-packet p h))
+pub has-captions : (p : List ℕ) → verdict (packetChecks p) ≡ clear → flagsIn p .«cc_data» ≡ true → captionsAt p + captionsSize p (captionsAt p) ≤ length p
+has-captions p h on = captions-there p (captionsAt p) (when-there _ (captionsChecks p (captionsAt p)) on (captions-of-packet p h))
 
-out-long : (p : List ℕ) (i : ℕ) (present : Bool) → (present ≡ true → i + ccDataSize p i ≤ length p)
-    → length (cond present (handedOut p i) []) ≡ sizeWhen present (ccDataSize p i)
+out-long : (p : List ℕ) (i : ℕ) (present : Bool) → (present ≡ true → i + captionsSize p i ≤ length p)
+    → length (cond present (handedOut p i) []) ≡ sizeWhen present (captionsSize p i)
 out-long p i true there = handed-long p i (there refl)
 out-long p i false there = refl
 
-pub captions-long : (p : List ℕ) → verdict (packetChecks p) ≡ clear → length (captionsOf p) ≡ captionLength p
-captions-long p h = out-long p (ccDataAt p) (flagsIn p .«cc_data») (has-captions p h)
+pub captions-long : (p : List ℕ) → verdict (packetChecks p) ≡ clear → length (captionsOf p) ≡ captionsLength p
+captions-long p h = out-long p (captionsAt p) (flagsIn p .«cc_data») (has-captions p h)
 
 -- the answer and the state
 module _ (s : CDPParser) (p : List ℕ) (room : ℕ) where
@@ -48,22 +48,22 @@ module _ (s : CDPParser) (p : List ℕ) (room : ℕ) where
 
   module _ (enough : 95 ≤ room) where
     -- the packet's own checks are left
-    as-packet : result (answer (verdict (packetChecks p)) (captionLength p)) (ifClear (verdict (packetChecks p)) (shownBy p) (cleared s)) ≡ read s p room
+    as-packet : result (answer (verdict (packetChecks p)) (captionsLength p)) (ifClear (verdict (packetChecks p)) (shownBy p) (cleared s)) ≡ read s p room
     unfolding read
     as-packet = simp (le-leb _ _ enough)
 
     pub packet-refused : eqb (packetRead p .answer .number) 0 ≡ false → result (packetRead p .answer) (cleared s) ≡ read s p room
     unfolding packetRead
-    packet-refused wrong = refused-shows result (verdict (packetChecks p)) (captionLength p) (captionLength p) (shownBy p) (cleared s) wrong ∙ as-packet
+    packet-refused wrong = refused-shows result (verdict (packetChecks p)) (captionsLength p) (captionsLength p) (shownBy p) (cleared s) wrong ∙ as-packet
 
     shown-accepted : eqb (packetRead p .answer .number) 0 ≡ true → result (packetRead p .answer) (packetRead p .shown) ≡ read s p room
     unfolding packetRead
     shown-accepted right =
-        ap (λ (v : Verdict). result (answer v (captionLength p)) (ifClear v (shownBy p) fresh)) (packet-clear p right)
-        ∙ ap (λ (v : Verdict). result (answer v (captionLength p)) (ifClear v (shownBy p) (cleared s))) (sym (packet-clear p right))
+        ap (λ (v : Verdict). result (answer v (captionsLength p)) (ifClear v (shownBy p) freshReader)) (packet-clear p right)
+        ∙ ap (λ (v : Verdict). result (answer v (captionsLength p)) (ifClear v (shownBy p) (cleared s))) (sym (packet-clear p right))
         ∙ as-packet
 
-    pub packet-accepted : eqb (packetRead p .answer .number) 0 ≡ true → result (done (captionLength p)) (shownBy p) ≡ read s p room
+    pub packet-accepted : eqb (packetRead p .answer .number) 0 ≡ true → result (done (captionsLength p)) (shownBy p) ≡ read s p room
     packet-accepted right = ap (λ (r : PacketRead). result (r .answer) (r .shown)) (all-shown p right) ∙ shown-accepted right
 
 -- the buffer
@@ -80,7 +80,7 @@ module _ (p : List ℕ) (buffer : List ℕ) where
     pub refused-buffer : eqb (packetRead p .answer .number) 0 ≡ false → buffer ≡ bufferAfter p buffer
     unfolding packetRead
     refused-buffer wrong =
-        refused-shows (λ a b. b) (verdict (packetChecks p)) (captionLength p) (captionLength p) (over 0 (captionsOf p) buffer) buffer wrong
+        refused-shows (λ a b. b) (verdict (packetChecks p)) (captionsLength p) (captionsLength p) (over 0 (captionsOf p) buffer) buffer wrong
         ∙ buffer-as-packet
 
     module _ (right : eqb (packetRead p .answer .number) 0 ≡ true) where

@@ -15,14 +15,14 @@ use Rattle.basis.specs.Answer.{BufferTooShort}
 use Rattle.basis.specs.Bytes.{byte, over}
 use Rattle.basis.specs.Check.{Verdict, answer, broken, clear, ifClear, roomCheck, verdict}
 use Rattle.values.specs.Rate.{noRate}
-use Rattle.times.specs.Time.{timeAbsent}
-use Rattle.footer.proofs.FooterFound.{checksum-kept}
-use Rattle.footer.specs.Footer.{checksumOf}
-use Rattle.header.specs.Header.{sequenceIn}
-use Rattle.checked.proofs.Answers.{fine, not-eleven, packet-fine}
-use Rattle.checked.proofs.PacketReads.{closing-of-packet, size-of-packet}
+use Rattle.values_time.specs.Time.{timeAbsent}
+use Rattle.read_closing.proofs.FooterFound.{checksum-kept}
+use Rattle.read_closing.specs.Closing.{checksumOf}
+use Rattle.read_header.specs.Header.{sequenceIn}
+use Rattle.read_packet.proofs.Answers.{fine, not-eleven, packet-fine}
+use Rattle.read_packet.proofs.PacketReads.{closing-of-packet, size-of-packet}
 use Rattle.reader.proofs.ReaderReads.{captions-long}
-use Rattle.checked.specs.Packet.{captionLength, closingAt, footerAt, packetChecks}
+use Rattle.read_packet.specs.Packet.{captionsLength, closingAt, footerAt, packetChecks}
 use Rattle.reader.specs.Shown.{shownBy}
 use Rattle.reader.specs.Reader.{bufferAfter, captionRoom, captionsOf, cleared, read, readChecks}
 use Rattle.reader.specs.declared.parser.CDPParser.{CDPParser}
@@ -69,19 +69,19 @@ module _ (s : CDPParser) (p buffer : List ℕ) where
   pub refusal-writes-nothing : eqb (given .answer .number) 0 ≡ false → bufferAfter p buffer ≡ buffer
   unfolding read bufferAfter
   refusal-writes-nothing h =
-      sym (refused-shows (λ a b. b) (verdict (readChecks p (length buffer))) (captionLength p) (captionLength p) (over 0 (captionsOf p) buffer) buffer h)
+      sym (refused-shows (λ a b. b) (verdict (readChecks p (length buffer))) (captionsLength p) (captionsLength p) (over 0 (captionsOf p) buffer) buffer h)
 
   -- answer 11 changes nothing
   pub eleven-changes-nothing : given .answer .number ≡ 11 → given .parser ≡ s
   unfolding read
   eleven-changes-nothing h =
-      eleven (leb captionRoom (length buffer)) (verdict (packetChecks p)) (length buffer) (captionLength p) (shownBy p) s (packet-fine p) (eq-eqb _ _ h)
+      eleven (leb captionRoom (length buffer)) (verdict (packetChecks p)) (length buffer) (captionsLength p) (shownBy p) s (packet-fine p) (eq-eqb _ _ h)
 
   -- any other refusal clears rate, time code and sequence
   module _ (refusal : eqb (given .answer .number) 0 ≡ false) (other : eqb (given .answer .number) 11 ≡ false) where
     pub refusal-clears : given .parser ≡ cleared s
     unfolding read
-    refusal-clears = clears (leb captionRoom (length buffer)) (verdict (packetChecks p)) (length buffer) (captionLength p) (shownBy p) s refusal other
+    refusal-clears = clears (leb captionRoom (length buffer)) (verdict (packetChecks p)) (length buffer) (captionsLength p) (shownBy p) s refusal other
 
     pub refusal-clears-rate : given .parser .framerate ≡ noRate
     refusal-clears-rate = ap (λ (r : CDPParser). r .framerate) refusal-clears
@@ -96,21 +96,21 @@ module _ (s : CDPParser) (p buffer : List ℕ) where
   pub long-refused : byte p 2 ≤ 255 → 255 < length p → eqb (given .answer .number) 0 ≡ false
   unfolding read
   long-refused a b =
-      refused-unless (verdict (readChecks p (length buffer))) (captionLength p)
+      refused-unless (verdict (readChecks p (length buffer))) (captionsLength p)
       (λ h. let s = size-of-packet p (kept-rest (roomCheck captionRoom (length buffer)) (packetChecks p) h) in omega (arith, a, b, s))
 
   -- no refusal, 11 or another, changes the service list or whether there is one
   pub list-only-from-accepted : eqb (given .answer .number) 0 ≡ false → given .parser .«service_info» ≡ s .«service_info»
   unfolding read
   list-only-from-accepted h =
-      keeps (leb captionRoom (length buffer)) (verdict (packetChecks p)) (length buffer) (captionLength p) (shownBy p) s h
+      keeps (leb captionRoom (length buffer)) (verdict (packetChecks p)) (length buffer) (captionsLength p) (shownBy p) s h
 
   -- a packet with another checksum than rule 9's is refused, so that no list comes from it
   module _ (wrong : byte p (footerAt p + 3) ≡ checksumOf p → ⊥) where
     pub bad-checksum-refused : eqb (given .answer .number) 0 ≡ false
     unfolding read
     bad-checksum-refused =
-        refused-unless (verdict (readChecks p (length buffer))) (captionLength p)
+        refused-unless (verdict (readChecks p (length buffer))) (captionsLength p)
         (λ h. wrong (checksum-kept p (sequenceIn p) (closingAt p) (closing-of-packet p (kept-rest (roomCheck captionRoom (length buffer)) (packetChecks p) h))))
 
     pub no-list-from-bad-checksum : given .parser .«service_info» ≡ s .«service_info»
@@ -125,6 +125,6 @@ module _ (s : CDPParser) (p buffer : List ℕ) where
   pub acceptance-hands-out : eqb (given .answer .number) 0 ≡ true → take (given .answer .first) (bufferAfter p buffer) ≡ captionsOf p
   unfolding read bufferAfter over
   acceptance-hands-out h =
-      let all : verdict (readChecks p (length buffer)) ≡ clear = done-clear (verdict (readChecks p (length buffer))) (captionLength p) h in
-      ap (λ (v : Verdict). take (answer v (captionLength p) .first) (ifClear v (over 0 (captionsOf p) buffer) buffer)) all
-      ∙ take-at (captionsOf p) (drop (0 + length (captionsOf p)) buffer) (captionLength p) (captions-long p (kept-rest (roomCheck captionRoom (length buffer)) (packetChecks p) all))
+      let all : verdict (readChecks p (length buffer)) ≡ clear = done-clear (verdict (readChecks p (length buffer))) (captionsLength p) h in
+      ap (λ (v : Verdict). take (answer v (captionsLength p) .first) (ifClear v (over 0 (captionsOf p) buffer) buffer)) all
+      ∙ take-at (captionsOf p) (drop (0 + length (captionsOf p)) buffer) (captionsLength p) (captions-long p (kept-rest (roomCheck captionRoom (length buffer)) (packetChecks p) all))

@@ -7,11 +7,11 @@ use lib.ListN.{length}
 use Rattle.basis.specs.Bytes.{over}
 use Rattle.basis.specs.Check.{Check, roomCheck, verdict, answer, ifClear}
 use Rattle.values.specs.Rate.{noRate}
-use Rattle.times.specs.Time.{timeAbsent}
-use Rattle.cc_section.specs.CcData.{handedOut}
-use Rattle.header.specs.Header.{flagsIn}
-use Rattle.checked.specs.Packet.{ccDataAt, captionLength, packetChecks}
-use Rattle.reader.specs.Shown.{fresh, shownBy, state}
+use Rattle.values_time.specs.Time.{timeAbsent}
+use Rattle.read_captions.specs.Captions.{handedOut}
+use Rattle.read_header.specs.Header.{flagsIn}
+use Rattle.read_packet.specs.Packet.{captionsAt, captionsLength, packetChecks}
+use Rattle.reader.specs.Shown.{freshReader, shownBy, state}
 use Rattle.reader.specs.declared.parser.CDPParser.{CDPParser}
 use Rattle.reader.specs.declared.parser.CDPParserRead.{CDPParserRead}
 
@@ -32,18 +32,18 @@ unfoldable pub read : CDPParser → List ℕ → ℕ → CDPParserRead
 read s p room =
     let v = verdict (readChecks p room) in
     record {
-      answer = answer v (captionLength p);
+      answer = answer v (captionsLength p);
       parser = cond (leb captionRoom room) (ifClear v (shownBy p) (cleared s)) s;
     }
 
 -- what is handed out: nothing without a caption section
 abbrev pub captionsOf : List ℕ → List ℕ
-captionsOf p = cond (flagsIn p .«cc_data») (handedOut p (ccDataAt p)) []
+captionsOf p = cond (flagsIn p .«cc_data») (handedOut p (captionsAt p)) []
 
 -- on acceptance these become the first bytes of the caption buffer; else it stays as it was
 unfoldable pub bufferAfter : List ℕ → List ℕ → List ℕ
 bufferAfter p buffer = ifClear (verdict (readChecks p (length buffer))) (over 0 (captionsOf p) buffer) buffer
 
--- a flush makes the state fresh
-abbrev pub flushed : CDPParser → CDPParser
-flushed s = fresh
+-- a flush makes the state freshReader
+abbrev pub flushedReader : CDPParser → CDPParser
+flushedReader s = freshReader

@@ -1,10 +1,10 @@
 // The packet reader: parser.rs of the Rust.
-mod captions;
-mod list;
-mod packet;
+mod hand_out;
+mod list_made;
+mod packet_read;
 mod parser;
 mod shown;
 
-pub use packet::PacketRead;
+pub use packet_read::PacketRead;
 pub use parser::CDPParser;
 pub use parser::CDPParserRead;

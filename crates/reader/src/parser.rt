@@ -2,17 +2,17 @@
 ghost use mathlib.Core.List.{_∷_};
 ghost use mathlib.Core.Path.{_≡_};
 ghost use lib.ListN.{length};
-ghost use Rattle.values.specs.Code.{constants};
-ghost use Rattle.reader.specs.Shown.{fresh};
+ghost use Rattle.values.specs.Code.{layoutConstants};
+ghost use Rattle.reader.specs.Shown.{freshReader};
 ghost use Rattle.reader.specs.Reader as Reader;
-use crate::captions::hand_out;
+use crate::hand_out::hand_out;
 use crate::shown::shown;
 use basis::Answer;
-use checked::Checked;
-use services::MaybeServiceInfo;
-use times::MaybeTimeCode;
+use read_packet::Checked;
+use service_list::MaybeServiceInfo;
 use values::MaybeFramerate;
 use values::Packet;
+use values_time::MaybeTimeCode;
 
 // What the last accepted packet had. After a refusal only its service list is left.
 pub struct CDPParser {
@@ -44,7 +44,7 @@ impl CDPParser {
 
     // Nothing calls this: its contract holds every constant above to the rules.
     fn held() -> [usize; 6]
-        ensures { λ r. ⌜ r ≡ Reader.captionRoom ∷ constants ⌝ }
+        ensures { λ r. ⌜ r ≡ Reader.captionRoom ∷ layoutConstants ⌝ }
     {
         [
             Self::CAPTION_ROOM,
@@ -58,7 +58,7 @@ impl CDPParser {
 
     // A reader that has read nothing.
     pub fn new() -> Self
-        ensures { λ r. ⌜ r ≡ fresh ⌝ }
+        ensures { λ r. ⌜ r ≡ freshReader ⌝ }
     {
         let service_info = MaybeServiceInfo::absent();
         Self {
@@ -89,7 +89,7 @@ impl CDPParser {
                 parser: self.cleared(),
             };
         }
-        hand_out(packet, read.flags.cc_data, read.cc_data_at, captions);
+        hand_out(packet, read.flags.cc_data, read.captions_at, captions);
         CDPParserRead {
             answer,
             parser: shown(read, packet),
@@ -98,7 +98,7 @@ impl CDPParser {
 
     // Makes the reader new.
     pub fn flush(self) -> Self
-        ensures { λ r. ⌜ r ≡ Reader.flushed self ⌝ }
+        ensures { λ r. ⌜ r ≡ Reader.flushedReader self ⌝ }
     {
         Self::new()
     }

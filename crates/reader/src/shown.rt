@@ -1,12 +1,12 @@
 // What the reader shows of a packet that is accepted.
 ghost use mathlib.Core.Path.{_≡_};
 ghost use Rattle.basis.specs.Check.{verdict, clear};
-ghost use Rattle.checked.specs.Packet.{packetChecks};
-ghost use Rattle.checked.specs.Code.{checkedRead};
+ghost use Rattle.read_packet.specs.Packet.{packetChecks};
+ghost use Rattle.read_packet.specs.Code.{checkedRead};
 ghost use Rattle.reader.specs.Shown.{shownBy};
-use crate::list::list;
+use crate::list_made::list;
 use crate::parser::CDPParser;
-use checked::Checked;
+use read_packet::Checked;
 
 // What the packet's tests have kept of it, and its list.
 pub(crate) fn shown(read: Checked, packet: &[u8]) -> CDPParser
@@ -21,6 +21,6 @@ pub(crate) fn shown(read: Checked, packet: &[u8]) -> CDPParser
         framerate,
         time_code,
         sequence: read.sequence,
-        service_info: list(packet, flags, read.svc_info_at),
+        service_info: list(packet, flags, read.services_at),
     }
 }

@@ -8,7 +8,7 @@ use native.Mathlib.Omega.{arith}
 use lib.ListN.{length, getD, take, drop, length-take, drop-of-length-le}
 use lib.Seq.{drop-cons, getD-take}
 use Rattle.report.specs.Digest.{fed, allFed, entryFed, entriesFed}
-use Rattle.entries.specs.declared.entry.ServiceEntry.{ServiceEntry}
+use Rattle.service_entry.specs.declared.entry.ServiceEntry.{ServiceEntry}
 
 -- the digest with the bytes from k on still to come
 unfoldable pub bytesLeft : ℕ → ℕ → List ℕ → ℕ

@@ -3,9 +3,9 @@ use mathlib.Core.Bool.{Bool, cond}
 use mathlib.Core.List.{List, [], _∷_}
 use Prim.Native.Nat.{ℕ, zero, suc, _+_, _*_, _/_, _%_}
 use Rattle.basis.specs.Bytes.{byte}
-use Rattle.entries.specs.declared.entry.ServiceEntry.{ServiceEntry}
-use Rattle.entries.specs.declared.service.FieldOrService.{FieldOrService}
-use Rattle.entries.specs.declared.service.FieldOrService.the-variants.{Field, Service}
+use Rattle.service_entry.specs.declared.entry.ServiceEntry.{ServiceEntry}
+use Rattle.service_entry.specs.declared.service.FieldOrService.{FieldOrService}
+use Rattle.service_entry.specs.declared.service.FieldOrService.the-variants.{Field, Service}
 
 -- the one added makes a zero count, so that a block of zeros shows its length
 unfoldable pub fed : ℕ → ℕ → ℕ

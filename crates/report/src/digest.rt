@@ -2,8 +2,8 @@
 ghost use mathlib.Core.Path.{_≡_};
 ghost use lib.ListN.{take};
 ghost use Rattle.report.specs.Digest as Digest;
-use entries::FieldOrService;
-use entries::ServiceEntry;
+use service_entry::FieldOrService;
+use service_entry::ServiceEntry;
 
 pub fn feed(digest: u64, byte: u8) -> u64
     ensures { λ r. ⌜ r ≡ Digest.fed digest byte ⌝ }

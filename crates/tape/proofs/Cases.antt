@@ -4,11 +4,11 @@ use mathlib.Core.Path.{_≡_, refl}
 use mathlib.Core.Bool.{true, false}
 use mathlib.Core.List.{List, [], _∷_}
 use Prim.Native.Nat.{ℕ}
-use Rattle.entries.specs.Service.{digitalEntry, entry}
-use Rattle.entries.specs.declared.service.FieldOrService.the-variants.{Field, Service}
-use Rattle.svc_entries.specs.Entries.{filled}
-use Rattle.services.specs.ServiceList.{list}
-use Rattle.times.specs.Time.{timeAbsent, timeCode, timePresent}
+use Rattle.service_entry.specs.Service.{digitalEntry, entry}
+use Rattle.service_entry.specs.declared.service.FieldOrService.the-variants.{Field, Service}
+use Rattle.service_entries.specs.Entries.{filled}
+use Rattle.service_list.specs.ServiceList.{list}
+use Rattle.values_time.specs.Time.{timeAbsent, timeCode, timePresent}
 use Rattle.tape.specs.Held.{clockAt, timeAt, timeWord}
 use Rattle.tape.specs.Lent.{roomOf}
 use Rattle.tape.specs.Lists.{digitalAt, entriesAt, entriesFrom, entryAt, entryWord, fieldAt, inLanguage, lastOf, listAt, listOf, listWord}

@@ -9,10 +9,10 @@ use borrow.Author.Tests.{eq-eqb, ne-eqb, ltb-true, ltb-false}
 use lib.Dec.{ltb}
 use lib.ListN.{length, set, take, length-append}
 use lib.Seq.{take-all, take-append-le}
-use Rattle.entries.specs.declared.entry.ServiceEntry.{ServiceEntry}
-use Rattle.svc_entries.proofs.SectionReads.{filled-more}
-use Rattle.svc_entries.specs.Entries.{filled}
-use Rattle.services.specs.declared.list.ServiceInfo.{ServiceInfo}
+use Rattle.service_entry.specs.declared.entry.ServiceEntry.{ServiceEntry}
+use Rattle.service_entries.proofs.SectionEntries.{filled-more}
+use Rattle.service_entries.specs.Entries.{filled}
+use Rattle.service_list.specs.declared.list.ServiceInfo.{ServiceInfo}
 use Rattle.tape.specs.Lists.{counted, entriesAt, entriesFrom, entryAt, heldBy, lastOf, listOf, listWord}
 use Rattle.tape.specs.Words.{markAt, nowhere}
 use Rattle.tape.specs.declared.lists.EntryWord.{EntryWord}

@@ -2,10 +2,10 @@
 use mathlib.Core.Bool.{cond}
 use mathlib.Core.List.{List}
 use Prim.Native.Nat.{ℕ}
-use Rattle.services.specs.ServiceList.{listAbsent, listPresent}
-use Rattle.services.specs.declared.list.MaybeServiceInfo.{MaybeServiceInfo}
-use Rattle.times.specs.Time.{timeAbsent, timeCode, timePresent}
-use Rattle.times.specs.declared.time_code.MaybeTimeCode.{MaybeTimeCode}
+use Rattle.service_list.specs.ServiceList.{listAbsent, listPresent}
+use Rattle.service_list.specs.declared.list.MaybeServiceInfo.{MaybeServiceInfo}
+use Rattle.values_time.specs.Time.{timeAbsent, timeCode, timePresent}
+use Rattle.values_time.specs.declared.time.MaybeTimeCode.{MaybeTimeCode}
 use Rattle.values.specs.Rate.{row}
 use Rattle.values.specs.declared.framerate.Framerate.{Framerate}
 use Rattle.tape.specs.Lists.{listAt}

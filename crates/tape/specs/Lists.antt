@@ -4,13 +4,13 @@ use mathlib.Core.List.{List, [], _∷_, map}
 use Prim.Native.Nat.{ℕ, zero, suc, _+_}
 use lib.Dec.{ltb}
 use lib.ListN.{length, set, take}
-use Rattle.entries.specs.Service.{digitalEntry, entry}
-use Rattle.entries.specs.declared.entry.ServiceEntry.{ServiceEntry}
-use Rattle.entries.specs.declared.service.FieldOrService.{FieldOrService}
-use Rattle.entries.specs.declared.service.FieldOrService.the-variants.{Field, Service}
-use Rattle.svc_entries.specs.Entries.{filled, places}
-use Rattle.services.specs.ServiceList as ServiceList
-use Rattle.services.specs.declared.list.ServiceInfo.{ServiceInfo}
+use Rattle.service_entry.specs.Service.{digitalEntry, entry}
+use Rattle.service_entry.specs.declared.entry.ServiceEntry.{ServiceEntry}
+use Rattle.service_entry.specs.declared.service.FieldOrService.{FieldOrService}
+use Rattle.service_entry.specs.declared.service.FieldOrService.the-variants.{Field, Service}
+use Rattle.service_entries.specs.Entries.{filled, places}
+use Rattle.service_list.specs.ServiceList as ServiceList
+use Rattle.service_list.specs.declared.list.ServiceInfo.{ServiceInfo}
 use Rattle.tape.specs.Words.{byteAt, flagAt, isNowhere, markAt, smallAt}
 use Rattle.tape.specs.declared.lists.EntryWord.{EntryWord}
 use Rattle.tape.specs.declared.lists.ListWord.{ListWord}

@@ -6,9 +6,9 @@ use crate::show;
 use crate::words;
 use crate::words::NOWHERE;
 use basis::Answer;
-use services::ServiceEntry;
-use services::ServiceInfo;
-use services::ServiceInfoAdded;
+use service_list::ServiceEntry;
+use service_list::ServiceInfo;
+use service_list::ServiceInfoAdded;
 
 // A call as the tape spells it: its first letter, with a flag or an entry where it has one.
 struct CallWord {

@@ -1,6 +1,6 @@
 // A rate, and what a writer may hold, as a tape spells them.
 ghost use mathlib.Core.Path.{_≡_};
-ghost use Rattle.services.specs.ServiceList.{listPresent};
+ghost use Rattle.service_list.specs.ServiceList.{listPresent};
 ghost use Rattle.tape.specs.Held as Held;
 use crate::lists;
 use crate::words::NOWHERE;
@@ -8,10 +8,10 @@ use crate::words::flag;
 use crate::words::mark;
 use crate::words::number;
 use crate::words::small;
-use services::MaybeServiceInfo;
-use times::MaybeTimeCode;
-use times::TimeCode;
+use service_list::MaybeServiceInfo;
 use values::Framerate;
+use values_time::MaybeTimeCode;
+use values_time::TimeCode;
 
 pub struct RateWord {
     pub framerate: Framerate,

@@ -9,11 +9,11 @@ use crate::words::byte;
 use crate::words::flag;
 use crate::words::mark;
 use crate::words::small;
-use services::DigitalServiceEntry;
-use services::FieldOrService;
-use services::ServiceEntry;
-use services::ServiceInfo;
-use svc_entries::fillers;
+use service_entries::fillers;
+use service_list::DigitalServiceEntry;
+use service_list::FieldOrService;
+use service_list::ServiceEntry;
+use service_list::ServiceInfo;
 
 pub struct EntryWord {
     pub entry: ServiceEntry,

@@ -6,12 +6,12 @@ use crate::print::word;
 use crate::words;
 use crate::write::written;
 use report::fill;
-use services::MaybeServiceInfo;
-use services::ServiceEntry;
-use services::ServiceInfo;
-use times::MaybeTimeCode;
-use times::TimeCode;
+use service_list::MaybeServiceInfo;
+use service_list::ServiceEntry;
+use service_list::ServiceInfo;
 use values::Framerate;
+use values_time::MaybeTimeCode;
+use values_time::TimeCode;
 use writer::CDPWriter;
 
 // The words of a line as far as the captions, which are put into the bytes that a line gives.

@@ -3,8 +3,8 @@ use crate::operation::malformed;
 use crate::print::word;
 use crate::show;
 use crate::words;
-use services::ServiceEntry;
-use services::ServiceInfo;
+use service_list::ServiceEntry;
+use service_list::ServiceInfo;
 
 pub fn section(line: &[u8], given: &mut [u8], out: &mut [u8], at: usize) -> usize {
     let found = words::bytes(line, words::operands(line), given);

@@ -6,15 +6,15 @@ use crate::print::hex;
 use crate::print::word;
 use basis::Answer;
 use reader::CDPParser;
-use services::DigitalServiceEntry;
-use services::FieldOrService;
-use services::MaybeServiceInfo;
-use services::ServiceEntry;
-use services::ServiceInfo;
-use times::MaybeTimeCode;
-use times::TimeCode;
+use service_list::DigitalServiceEntry;
+use service_list::FieldOrService;
+use service_list::MaybeServiceInfo;
+use service_list::ServiceEntry;
+use service_list::ServiceInfo;
 use values::Framerate;
 use values::MaybeFramerate;
+use values_time::MaybeTimeCode;
+use values_time::TimeCode;
 
 pub fn answer(out: &mut [u8], at: usize, shown: Answer) -> usize {
     let number = decimal(out, at, shown.number as u64);

@@ -7,8 +7,8 @@ use crate::show;
 use crate::words;
 use basis::Answer;
 use report::fill;
-use services::ServiceEntry;
-use services::ServiceInfo;
+use service_list::ServiceEntry;
+use service_list::ServiceInfo;
 
 pub fn section(line: &[u8], lent: &mut [u8], out: &mut [u8], at: usize) -> usize {
     let lends = lent::room(line);

@@ -1,12 +1,12 @@
--- Follows the code and not the rules: what stands beside a refusal, and the constants that are held.
+-- Follows the code and not the rules: what stands beside a refusal, and the layoutConstants that are held.
 use mathlib.Core.List.{List, [], _∷_}
 use Prim.Native.Nat.{ℕ}
-use Rattle.values.specs.Packet.{leastSize, timeCodeId, captionsId, servicesId, footerId}
+use Rattle.values.specs.Layout.{leastSize, timeCodeId, captionsId, servicesId, footerId}
 use mathlib.Core.Bool.{false}
 use Rattle.values.specs.declared.flags.Flags.{Flags}
 
-abbrev pub constants : List ℕ
-constants = leastSize ∷ timeCodeId ∷ captionsId ∷ servicesId ∷ footerId ∷ []
+abbrev pub layoutConstants : List ℕ
+layoutConstants = leastSize ∷ timeCodeId ∷ captionsId ∷ servicesId ∷ footerId ∷ []
 
 -- each flag's bit: time code, captions, services, start, change, complete, caption service active, reserved
 abbrev pub bits : List ℕ

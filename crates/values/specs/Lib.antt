@@ -1,4 +1,4 @@
-pub mod Packet
+pub mod Layout
 pub mod Rate
 pub mod Flags
 pub mod Sequence

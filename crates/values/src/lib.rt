@@ -2,13 +2,13 @@
 mod checksum;
 mod flags;
 mod framerate;
-mod packet;
+mod layout;
 mod sequence;
 
 pub use checksum::checksum_byte;
 pub use flags::Flags;
 pub use framerate::Framerate;
 pub use framerate::MaybeFramerate;
-pub use packet::Packet;
+pub use layout::Packet;
 pub use sequence::sequence_bytes;
 pub use sequence::sequence_count;

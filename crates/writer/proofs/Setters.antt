@@ -10,7 +10,7 @@ use Rattle.basis.specs.Answer.{WouldOverflow, done, refused}
 use Rattle.basis.specs.Check.{answer, verdict}
 use Rattle.writer.specs.Writer.{holding, setChecks, setServiceInfo}
 use Rattle.writer.specs.Code.{countAnswer}
-use Rattle.services.specs.declared.list.MaybeServiceInfo.{MaybeServiceInfo}
+use Rattle.service_list.specs.declared.list.MaybeServiceInfo.{MaybeServiceInfo}
 use Rattle.basis.specs.declared.answer.Answer.{Answer}
 use Rattle.writer.specs.declared.writer.CDPWriter.{CDPWriter}
 use Rattle.writer.specs.declared.writer.CDPWriterSet.{CDPWriterSet}

@@ -3,12 +3,12 @@ use mathlib.Core.Bool.{cond}
 use mathlib.Core.List.{List, [], _∷_}
 use Prim.Native.Nat.{ℕ}
 use Rattle.basis.specs.Check.{Check, when, verdict, answer, ifClear}
-use Rattle.entries.specs.Writing.{Written}
-use Rattle.packing.specs.Writing as Writing
-use Rattle.times.specs.Time.{timeAbsent}
-use Rattle.services.specs.ServiceList.{countCheck, listAbsent}
-use Rattle.services.specs.declared.list.MaybeServiceInfo.{MaybeServiceInfo}
-use Rattle.times.specs.declared.time_code.MaybeTimeCode.{MaybeTimeCode}
+use Rattle.service_entry.specs.EntryWriting.{Written}
+use Rattle.write_bytes.specs.PacketWriting as Writing
+use Rattle.values_time.specs.Time.{timeAbsent}
+use Rattle.service_list.specs.ServiceList.{countCheck, listAbsent}
+use Rattle.service_list.specs.declared.list.MaybeServiceInfo.{MaybeServiceInfo}
+use Rattle.values_time.specs.declared.time.MaybeTimeCode.{MaybeTimeCode}
 use Rattle.values.specs.declared.framerate.Framerate.{Framerate}
 use Rattle.writer.specs.declared.writer.CDPWriter.{CDPWriter}
 use Rattle.writer.specs.declared.writer.CDPWriterSet.{CDPWriterSet}
@@ -17,8 +17,8 @@ abbrev pub writer : MaybeTimeCode → MaybeServiceInfo → ℕ → CDPWriter
 writer time services sequence = record { «time_code» = time; «service_info» = services; sequence = sequence }
 
 -- nothing is held, sequence 0
-abbrev pub fresh : CDPWriter
-fresh = writer timeAbsent listAbsent 0
+abbrev pub freshWriter : CDPWriter
+freshWriter = writer timeAbsent listAbsent 0
 
 -- an absent time code that is set is zeros, an absent list empty
 abbrev pub heldTime : MaybeTimeCode → MaybeTimeCode
@@ -46,10 +46,10 @@ abbrev pub setSequenceCount : CDPWriter → ℕ → CDPWriter
 setSequenceCount w sequence = writer (w .«time_code») (w .«service_info») sequence
 
 -- a flush makes the writer new
-abbrev pub flushed : CDPWriter → CDPWriter
-flushed w = fresh
+abbrev pub flushedWriter : CDPWriter → CDPWriter
+flushedWriter w = freshWriter
 
 -- a packet of all that is held
-abbrev pub packetWritten : CDPWriter → Framerate → List ℕ → List ℕ → Written
-packetWritten w rate captions buffer =
+abbrev pub heldWritten : CDPWriter → Framerate → List ℕ → List ℕ → Written
+heldWritten w rate captions buffer =
     Writing.packetWritten rate (w .sequence) (w .«time_code») (w .«service_info») captions buffer

@@ -3,11 +3,11 @@ ghost use mathlib.Core.Path.{_≡_};
 ghost use Rattle.writer.specs.Writer as Writer;
 ghost use Rattle.writer.specs.Code as Code;
 use basis::Answer;
-use packing::write_packet;
-use services::MaybeServiceInfo;
-use services::ServiceInfo;
-use times::MaybeTimeCode;
+use service_list::MaybeServiceInfo;
+use service_list::ServiceInfo;
 use values::Framerate;
+use values_time::MaybeTimeCode;
+use write_bytes::write_packet;
 
 // What goes into the next packets, until it is set anew: writing changes none of it.
 pub struct CDPWriter {
@@ -25,7 +25,7 @@ pub struct CDPWriterSet {
 impl CDPWriter {
     // Holds nothing; sequence 0.
     pub fn new() -> Self
-        ensures { λ r. ⌜ r ≡ Writer.fresh ⌝ }
+        ensures { λ r. ⌜ r ≡ Writer.freshWriter ⌝ }
     {
         let service_info = MaybeServiceInfo::absent();
         Self {
@@ -89,15 +89,15 @@ impl CDPWriter {
 
     // Makes the writer new.
     pub fn flush(self) -> Self
-        ensures { λ r. ⌜ r ≡ Writer.flushed self ⌝ }
+        ensures { λ r. ⌜ r ≡ Writer.flushedWriter self ⌝ }
     {
         Self::new()
     }
 
     // Writes a packet of what is held at the start of the lent bytes.
     pub fn write(self, framerate: Framerate, captions: &[u8], out: &mut [u8]) -> Answer
-        ensures { λ r. ⌜ r ≡ Writer.packetWritten self framerate (now (captions .entry)) (now (out .entry)) .answer ⌝ }
-        ensures { λ r. ⌜ now (out .exit) ≡ Writer.packetWritten self framerate (now (captions .entry)) (now (out .entry)) .buffer ⌝ }
+        ensures { λ r. ⌜ r ≡ Writer.heldWritten self framerate (now (captions .entry)) (now (out .entry)) .answer ⌝ }
+        ensures { λ r. ⌜ now (out .exit) ≡ Writer.heldWritten self framerate (now (captions .entry)) (now (out .entry)) .buffer ⌝ }
     {
         write_packet(
             framerate,

@@ -2,7 +2,7 @@
 -- Assumes nothing.
 use mathlib.Core.Path.{_∙_, ap}
 use Rattle.reader.proofs.PacketShown.{checked-clear, shown-is}
-use Rattle.checked.specs.declared.checked.Checked.{Checked}
+use Rattle.read_packet.specs.declared.checked.Checked.{Checked}
 use Rattle.reader.proofs.shown.shown.Statement.{statement}
 use Rattle.reader.proofs.shown.shown.Tie as tie
 
@@ -10,7 +10,7 @@ list-requires : tie.Need-list-requires
 list-requires c κs =
     let s = c .before .before .before .before in
     let e = s .pre .1 ∙ checked-clear _ (s .pre .0) in
-    (s .pre .0, (ap (λ (r : Checked). r .flags) e, ap (λ (r : Checked). r .«svc_info_at») e))
+    (s .pre .0, (ap (λ (r : Checked). r .flags) e, ap (λ (r : Checked). r .«services_at») e))
 
 returns : tie.Need-returns
 returns c =

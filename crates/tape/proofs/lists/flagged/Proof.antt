@@ -1,6 +1,6 @@
 -- `lists::flagged`: the filler in all places.
 -- Assumes nothing.
-use Rattle.svc_entries.specs.Entries.{filled}
+use Rattle.service_entries.specs.Entries.{filled}
 use Rattle.tape.specs.Lists.{listOf}
 use borrow.Author.Needs.{needs}
 use Rattle.tape.proofs.lists.flagged.Statement.{statement}

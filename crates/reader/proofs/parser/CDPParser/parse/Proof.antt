@@ -5,7 +5,7 @@ use native.Mathlib.Omega.{arith}
 use borrow.Author.Tests.{not-true, not-false}
 use Rattle.reader.proofs.PacketShown.{accepts, checks-answer, packet-clear}
 use Rattle.reader.proofs.ReaderReads.{has-captions, no-room, no-room-buffer, packet-refused, refused-buffer, packet-accepted, accepted-buffer}
-use Rattle.checked.specs.declared.checked.Checked.{Checked}
+use Rattle.read_packet.specs.declared.checked.Checked.{Checked}
 use borrow.Author.Needs.{needs}
 use Rattle.reader.proofs.parser.CDPParser.parse.Statement.{statement}
 use Rattle.reader.proofs.parser.CDPParser.parse.Tie as tie

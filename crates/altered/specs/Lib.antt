@@ -1,5 +1,0 @@
-pub mod Sequence
-pub mod Alteration
-pub mod Mending
-pub mod Twins
-pub mod Examples

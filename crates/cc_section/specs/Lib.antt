@@ -1,2 +1,0 @@
-pub mod CcData
-pub mod Code

@@ -1,4 +1,0 @@
-pub mod Service
-pub mod Entry
-pub mod Writing
-pub mod Code

@@ -1,9 +1,0 @@
-// An entry of the service section: the first half of svc.rs of the Rust.
-mod entry;
-mod service;
-mod writing;
-
-pub use entry::ServiceEntry;
-pub use entry::ServiceEntryRead;
-pub use service::DigitalServiceEntry;
-pub use service::FieldOrService;

@@ -1,2 +1,0 @@
-pub mod Footer
-pub mod Code

@@ -1,0 +1,68 @@
+-- Rule 6, test by test: what the definition gives where a test is the first that fails, and where none does.
+-- Assumes nothing.
+use mathlib.Core.Bool.{Bool, true, false}
+use mathlib.Core.List.{List, [], _∷_}
+use mathlib.Core.Path.{_≡_}
+use Prim.Native.Nat.{ℕ, _+_, _*_, _/_, _%_, _≤_, _<_}
+use native.Mathlib.Omega.{arith}
+use borrow.Author.Tests.{eq-eqb, ne-eqb, le-leb, leb-true, lt-leb}
+use lib.Dec.{eqb}
+use lib.ListN.{length, drop, length-drop}
+use lib.Seq.{length-take-le}
+use Rattle.basis.proofs.Verdicts.{kept-first, kept-rest}
+use Rattle.basis.specs.Answer.{LengthMismatch, WrongMagic, InvalidFixedBits, done, refused}
+use Rattle.basis.specs.Bytes.{byte}
+use Rattle.basis.specs.Check.{Check, check, clear, sizeCheck, verdict}
+use Rattle.basis.specs.Code.{alone, sized}
+use Rattle.basis.specs.Mask.{allSet, xE0}
+use Rattle.values.specs.Layout.{captionsId}
+use Rattle.read_captions.specs.Captions.{captionCount, captionsChecks, captionsSize, handedOut}
+use Rattle.read_captions.specs.Code.{captionsTested}
+
+-- the last of four checks, where all are kept
+fourth : (a b c d : Check) → verdict (a ∷ b ∷ c ∷ d ∷ []) ≡ clear → d .kept ≡ true
+fourth a b c d h = kept-first d [] (kept-rest c (d ∷ []) (kept-rest b (c ∷ d ∷ []) (kept-rest a (b ∷ c ∷ d ∷ []) h)))
+
+module _ (p : List ℕ) (i : ℕ) where
+  -- the count, as the code has it
+  abbrev count : ℕ
+  count = byte p (i + 1) % 32
+
+  as-count : byte p (i + 1) / 1 % 32 ≡ count
+  as-count = omega arith
+
+  pub not-there : (present : Bool) → present ≡ false → alone (done 0) ≡ captionsTested p present i
+  unfolding captionsTested
+  not-there present a = simp a
+
+  module _ (present : Bool) (there : present ≡ true) where
+    pub too-short : length p < i + 2 → alone (refused (LengthMismatch (i + 2) (length p))) ≡ captionsTested p present i
+    unfolding captionsTested
+    too-short a = simp (there, lt-leb _ _ a)
+
+    module _ (long : i + 2 ≤ length p) where
+      pub other-id : (byte p i ≡ 0x72 → ⊥) → alone (refused WrongMagic) ≡ captionsTested p present i
+      unfolding captionsTested
+      other-id a = simp (there, le-leb _ _ long, ne-eqb _ _ a)
+
+      module _ (id : byte p i ≡ 0x72) where
+        pub no-E0 : (byte p (i + 1) / 32 % 8 ≡ 7 → ⊥) → alone (refused InvalidFixedBits) ≡ captionsTested p present i
+        unfolding captionsTested
+        no-E0 a = simp (there, le-leb _ _ long, eq-eqb _ _ id, ne-eqb _ _ a)
+
+        module _ (fixed : byte p (i + 1) / 32 % 8 ≡ 7) where
+          pub captions-cut : length p < i + (2 + 3 * count) → alone (refused (LengthMismatch (i + (2 + 3 * count)) (length p))) ≡ captionsTested p present i
+          unfolding captionsTested
+          captions-cut a = simp (there, le-leb _ _ long, eq-eqb _ _ id, eq-eqb _ _ fixed, as-count, lt-leb _ _ a)
+
+          pub captions-whole : i + (2 + 3 * count) ≤ length p → sized (2 + 3 * count) ≡ captionsTested p present i
+          unfolding captionsTested
+          captions-whole a = simp (there, le-leb _ _ long, eq-eqb _ _ id, eq-eqb _ _ fixed, as-count, le-leb _ _ a)
+
+  -- an accepted section has all its bytes
+  pub captions-there : verdict (captionsChecks p i) ≡ clear → i + captionsSize p i ≤ length p
+  captions-there h =
+      leb-true _ _ (fourth (sizeCheck p (i + 2)) (check (eqb (byte p i) captionsId) WrongMagic) (check (allSet xE0 (byte p (i + 1))) InvalidFixedBits) (sizeCheck p (i + captionsSize p i)) h)
+
+  pub handed-long : i + captionsSize p i ≤ length p → length (handedOut p i) ≡ captionsSize p i
+  handed-long h = simp (length-take-le (3 * captionCount p i) (drop (i + 2) p) (rw length-drop (omega arith))) (omega arith)

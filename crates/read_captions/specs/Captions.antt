@@ -1,0 +1,29 @@
+-- Rule 6: the captions, 2+3c bytes from i on, and what is handed out of them.
+use mathlib.Core.List.{List, [], _∷_}
+use Prim.Native.Nat.{ℕ, _+_, _*_}
+use lib.Dec.{eqb}
+use Rattle.basis.specs.Answer.{WrongMagic, InvalidFixedBits}
+use Rattle.basis.specs.Bytes.{byte, part}
+use Rattle.basis.specs.Check.{Check, check, sizeCheck}
+use Rattle.basis.specs.Mask.{under, allSet, xE0, x1F}
+use Rattle.values.specs.Layout.{captionsId}
+
+-- the count c is the low five bits of byte i+1
+abbrev pub captionCount : List ℕ → ℕ → ℕ
+captionCount p i = under x1F (byte p (i + 1))
+
+abbrev pub captionsSize : List ℕ → ℕ → ℕ
+captionsSize p i = 2 + 3 * captionCount p i
+
+-- n is at least i+2; byte i is 72; byte i+1 has all of E0; n is at least i+2+3c
+abbrev pub captionsChecks : List ℕ → ℕ → List Check
+captionsChecks p i =
+    sizeCheck p (i + 2)
+    ∷ check (eqb (byte p i) captionsId) WrongMagic
+    ∷ check (allSet xE0 (byte p (i + 1))) InvalidFixedBits
+    ∷ sizeCheck p (i + captionsSize p i)
+    ∷ []
+
+-- C0 + c, FF and the 3c bytes
+abbrev pub handedOut : List ℕ → ℕ → List ℕ
+handedOut p i = (0xC0 + captionCount p i) ∷ 0xFF ∷ part (i + 2) (3 * captionCount p i) p

@@ -1,0 +1,138 @@
+-- `footer::test_closing`: over the future sections of rule 8, and then rule 9.
+-- Assumes nothing.
+use mathlib.Core.Path.{_∙_}
+use Prim.Native.Nat.{_+_, _-_}
+use native.Mathlib.Omega.{arith}
+use borrow.Author.Needs.{needs}
+use Rattle.read_closing.proofs.ClosingReads.{Reached, begins, footer-reached, future-cut, goes-on, id-high, id-low, nothing-behind, nothing-there}
+use Rattle.read_closing.proofs.closing.test_closing.Statement.{statement}
+use Rattle.read_closing.proofs.closing.test_closing.Tie as tie
+
+abbrev Inv-loop : tie.InvT-loop
+Inv-loop packet sequence at size i₀ i = Reached packet sequence at i
+
+abbrev μ-loop : tie.MeasureT-loop
+μ-loop packet sequence at size i₀ i = size - i
+
+add-if1 : tie.Need-add-if1 Inv-loop μ-loop
+add-if1 c = search needs
+
+add-length-mismatch : tie.Need-add-length-mismatch Inv-loop μ-loop
+add-length-mismatch c = search needs
+
+length-mismatch-requires : tie.Need-length-mismatch-requires Inv-loop μ-loop
+length-mismatch-requires c κs = search needs
+
+returns : tie.Need-returns Inv-loop μ-loop
+returns c = c .length-mismatch .ensures ∙ nothing-there _ _ _ (omega arith)
+
+loop-holds : tie.Need-loop-holds Inv-loop μ-loop
+loop-holds c = begins _ _ _ (omega arith)
+
+shared-slice-read-if2 : tie.Need-shared-slice-read-if2 Inv-loop μ-loop
+shared-slice-read-if2 c = search needs
+
+shared-slice-read-if3 : tie.Need-shared-slice-read-if3 Inv-loop μ-loop
+shared-slice-read-if3 c = search needs
+
+returns-2 : tie.Need-returns-2 Inv-loop μ-loop
+returns-2 c = id-low _ _ _ _ (c .before .before .before .before .loop .inv) (c .before .before .if2 .taken) (omega arith)
+
+shared-slice-read-if4 : tie.Need-shared-slice-read-if4 Inv-loop μ-loop
+shared-slice-read-if4 c = search needs
+
+returns-3 : tie.Need-returns-3 Inv-loop μ-loop
+returns-3 c = id-high _ _ _ _ (c .before .before .before .before .before .before .loop .inv) (c .before .before .before .before .if2 .taken) (omega arith) (omega arith)
+
+add-length : tie.Need-add-length Inv-loop μ-loop
+add-length c = search needs
+
+shared-slice-read-length : tie.Need-shared-slice-read-length Inv-loop μ-loop
+shared-slice-read-length c = search needs
+
+cast-length : tie.Need-cast-length Inv-loop μ-loop
+cast-length c = omega (arith, c .shared-slice-known5 .given (c .before .before .before .before .before .before .before .loop .i + 1))
+
+add-if5 : tie.Need-add-if5 Inv-loop μ-loop
+add-if5 c = search needs
+
+add-if5-2 : tie.Need-add-if5-2 Inv-loop μ-loop
+add-if5-2 c = omega (arith, c .shared-slice-known5 .given (c .before .before .before .before .before .before .before .loop .i + 1))
+
+add-length-mismatch-2 : tie.Need-add-length-mismatch-2 Inv-loop μ-loop
+add-length-mismatch-2 c = search needs
+
+add-length-mismatch-3 : tie.Need-add-length-mismatch-3 Inv-loop μ-loop
+add-length-mismatch-3 c = omega (arith, c .before .shared-slice-known5 .given (c .before .before .before .before .before .before .before .before .loop .i + 1))
+
+length-mismatch-requires-2 : tie.Need-length-mismatch-requires-2 Inv-loop μ-loop
+length-mismatch-requires-2 c κs = search needs
+
+returns-4 : tie.Need-returns-4 Inv-loop μ-loop
+returns-4 c = c .length-mismatch2 .ensures ∙ future-cut _ _ _ _ (c .before .before .before .before .before .before .before .before .before .loop .inv) (c .before .before .before .before .before .before .before .if2 .taken) (omega arith) (omega arith) (omega arith)
+
+add-next : tie.Need-add-next Inv-loop μ-loop
+add-next c = search needs
+
+add-next-2 : tie.Need-add-next-2 Inv-loop μ-loop
+add-next-2 c = search needs
+
+add-if6 : tie.Need-add-if6 Inv-loop μ-loop
+add-if6 c = search needs
+
+add-length-mismatch-4 : tie.Need-add-length-mismatch-4 Inv-loop μ-loop
+add-length-mismatch-4 c = search needs
+
+length-mismatch-requires-3 : tie.Need-length-mismatch-requires-3 Inv-loop μ-loop
+length-mismatch-requires-3 c κs = search needs
+
+returns-5 : tie.Need-returns-5 Inv-loop μ-loop
+returns-5 c = c .length-mismatch3 .ensures ∙ nothing-behind _ _ _ _ (c .before .before .before .before .before .before .before .before .before .before .loop .inv) (c .before .before .before .before .before .before .before .before .if2 .taken) (omega arith) (omega arith) (omega arith) (omega arith)
+
+loop-less : tie.Need-loop-less Inv-loop μ-loop
+loop-less c = search needs
+
+loop-again : tie.Need-loop-again Inv-loop μ-loop
+loop-again c = goes-on _ _ _ _ (c .before .before .before .before .before .before .before .before .before .loop .inv) (c .before .before .before .before .before .before .before .if2 .taken) (omega arith) (omega arith) (omega arith) (omega arith)
+
+test-footer-requires : tie.Need-test-footer-requires Inv-loop μ-loop
+test-footer-requires c κs = search needs
+
+returns-6 : tie.Need-returns-6 Inv-loop μ-loop
+returns-6 c = c .test-footer .ensures ∙ footer-reached _ _ _ _ (c .before .before .before .loop .inv) (omega arith)
+
+pub test-closing-spec : {M : Type 1} → statement M
+test-closing-spec =
+    tie.close
+    (tie.spec
+    Inv-loop
+    μ-loop
+    add-if1
+    add-length-mismatch
+    length-mismatch-requires
+    returns
+    loop-holds
+    shared-slice-read-if2
+    shared-slice-read-if3
+    returns-2
+    shared-slice-read-if4
+    returns-3
+    add-length
+    shared-slice-read-length
+    cast-length
+    add-if5
+    add-if5-2
+    add-length-mismatch-2
+    add-length-mismatch-3
+    length-mismatch-requires-2
+    returns-4
+    add-next
+    add-next-2
+    add-if6
+    add-length-mismatch-4
+    length-mismatch-requires-3
+    returns-5
+    loop-less
+    loop-again
+    test-footer-requires
+    returns-6)

@@ -1,0 +1,57 @@
+// Rules 8 and 9: what stands behind the sections.
+ghost use mathlib.Core.Path.{_≡_};
+ghost use Prim.Native.Nat.{_+_, _≤_};
+ghost use lib.ListN.{length};
+ghost use Rattle.read_closing.specs.Code.{closingRead, footerRead};
+use basis::Answer;
+use values::Packet;
+use values::checksum_byte;
+use values::sequence_count;
+
+// Goes over the future sections from a place on, and tests the footer behind them.
+pub fn test_closing(packet: &[u8], sequence: u16, at: u8) -> Answer
+    ensures { λ r. ⌜ r ≡ closingRead (now (packet .entry)) sequence at ⌝ }
+{
+    let size = packet.len();
+    let mut i = at as usize;
+    if size < i + 2 {
+        return Answer::length_mismatch(i + 2, size);
+    }
+    while packet[i] != Packet::CDP_FOOTER_ID {
+        if packet[i] < 0x75 {
+            return Answer::WRONG_MAGIC;
+        }
+        if 0xEF < packet[i] {
+            return Answer::WRONG_MAGIC;
+        }
+        let length = packet[i + 1] as usize;
+        // The length is counted from behind the id byte here, as the Rust does.
+        if size < i + 1 + length {
+            return Answer::length_mismatch(i + 1 + length, size);
+        }
+        let next = i + 2 + length;
+        if size < next + 2 {
+            return Answer::length_mismatch(next + 2, size);
+        }
+        i = next;
+    }
+    test_footer(packet, sequence, i)
+}
+
+// Tests the footer at a place. More bytes may follow it.
+fn test_footer(packet: &[u8], sequence: u16, i: usize) -> Answer
+    requires { ⌜ i + 2 ≤ length (now packet) ⌝ }
+    ensures { λ r. ⌜ r ≡ footerRead (now (packet .entry)) sequence i ⌝ }
+{
+    let size = packet.len();
+    if size < i + 4 {
+        return Answer::length_mismatch(i + 4, size);
+    }
+    if sequence_count(packet[i + 1], packet[i + 2]) != sequence {
+        return Answer::SEQUENCE_COUNT_MISMATCH;
+    }
+    if packet[i + 3] != checksum_byte(&packet[..size - 1]) {
+        return Answer::CHECKSUM_FAILED;
+    }
+    Answer::done(0)
+}

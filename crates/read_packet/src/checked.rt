@@ -1,0 +1,86 @@
+// Rules 2 to 9, one after the other: whether a packet is accepted, and all that it holds but its service list.
+ghost use mathlib.Core.Path.{_≡_};
+ghost use Rattle.read_packet.specs.Code.{checkedRead, refusedChecked};
+use basis::Answer;
+use read_captions::test_captions;
+use read_closing::test_closing;
+use read_header::Header;
+use read_services::test_services;
+use read_time_code::TimeCodeSection;
+use values::Flags;
+use values::MaybeFramerate;
+use values_time::MaybeTimeCode;
+
+// What reading gives: beside a refusal, nothing but the answer. The list is left for the reader to make when nothing is
+// left that could refuse, so that no refusal and no packet without services copies one.
+pub struct Checked {
+    pub answer: Answer,
+    pub framerate: MaybeFramerate,
+    pub time_code: MaybeTimeCode,
+    pub sequence: u16,
+    pub flags: Flags,
+    pub captions_at: u8,
+    pub services_at: u8,
+}
+
+impl Checked {
+    // Nothing but the answer.
+    fn refused(answer: Answer) -> Self
+        ensures { λ r. ⌜ r ≡ refusedChecked answer ⌝ }
+    {
+        Self {
+            answer,
+            framerate: MaybeFramerate::ABSENT,
+            time_code: MaybeTimeCode::ABSENT,
+            sequence: 0,
+            flags: Flags::NONE,
+            captions_at: 0,
+            services_at: 0,
+        }
+    }
+
+    // Each section begins where the one before it ends.
+    pub fn parse(packet: &[u8]) -> Self
+        ensures { λ r. ⌜ r ≡ checkedRead (now (packet .entry)) ⌝ }
+    {
+        let header = Header::parse(packet);
+        let header_answer = header.answer;
+        if !header_answer.is_done() {
+            return Self::refused(header_answer);
+        }
+        let flags = header.flags;
+        let section = TimeCodeSection::parse(packet, flags.time_code, 7);
+        let time_code_answer = section.answer;
+        if !time_code_answer.is_done() {
+            return Self::refused(time_code_answer);
+        }
+        let captions_at = 7 + section.size;
+        let captions = test_captions(packet, flags.cc_data, captions_at as u8);
+        let captions_answer = captions.answer;
+        if !captions_answer.is_done() {
+            return Self::refused(captions_answer);
+        }
+        let services_at = captions_at + captions.size;
+        let services = test_services(packet, flags, services_at as u8);
+        let services_answer = services.answer;
+        if !services_answer.is_done() {
+            return Self::refused(services_answer);
+        }
+        let closing_at = services_at + services.size;
+        let closing_answer = test_closing(packet, header.sequence, closing_at as u8);
+        if !closing_answer.is_done() {
+            return Self::refused(closing_answer);
+        }
+        let framerate = header.framerate;
+        let time_code = section.time_code;
+        Self {
+            answer: Answer::done(captions.size),
+            framerate,
+            time_code,
+            sequence: header.sequence,
+            flags,
+            captions_at: captions_at as u8,
+            services_at: services_at as u8,
+        }
+    }
+}

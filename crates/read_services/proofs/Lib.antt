@@ -1,0 +1,2 @@
+pub mod ServicesReads
+pub mod ServicesAlone

@@ -1,0 +1,2 @@
+pub mod Services
+pub mod Code

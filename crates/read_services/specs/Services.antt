@@ -1,0 +1,43 @@
+-- Rule 7: the service section, 2+7s bytes from i on.
+use mathlib.Core.Bool.{Bool, Bool·beq, cond, _&&_}
+use mathlib.Core.List.{List, [], _∷_, _++_}
+use Prim.Native.Nat.{ℕ, _+_}
+use lib.Dec.{eqb}
+use Rattle.basis.specs.Answer.{WrongMagic, ServiceFlagsMismatched}
+use Rattle.basis.specs.Bytes.{byte, part}
+use Rattle.basis.specs.Check.{Check, check, sizeCheck}
+use Rattle.basis.specs.Mask.{under, x0F}
+use Rattle.values.specs.Layout.{servicesId}
+use Rattle.service_entries.specs.Entries.{sectionChecks, sectionLength}
+use Rattle.service_list.specs.Section.{listOf}
+use Rattle.service_list.specs.ServiceList.{listPresent, listAbsent}
+use Rattle.service_list.specs.declared.list.MaybeServiceInfo.{MaybeServiceInfo}
+use Rattle.service_list.specs.declared.list.ServiceInfo.{ServiceInfo}
+use Rattle.values.specs.declared.flags.Flags.{Flags}
+
+-- s is the low four bits of byte i+1
+abbrev pub servicesSize : List ℕ → ℕ → ℕ
+servicesSize p i = sectionLength (under x0F (byte p (i + 1)))
+
+-- the section's own bytes
+abbrev pub servicesPart : List ℕ → ℕ → List ℕ
+servicesPart p i = part i (servicesSize p i) p
+
+-- start, change and complete of the section are the header's
+unfoldable pub sameFlags : ServiceInfo → Flags → Bool
+sameFlags l f =
+    Bool·beq (l .start) (f .«svc_info_start»)
+    && (Bool·beq (l .change) (f .«svc_info_change») && Bool·beq (l .complete) (f .«svc_info_complete»))
+
+-- n is at least i+2; byte i is 73; n is at least i+2+7s; the rules of a section; the flags
+abbrev pub servicesChecks : List ℕ → Flags → ℕ → List Check
+servicesChecks p f i =
+    sizeCheck p (i + 2)
+    ∷ check (eqb (byte p i) servicesId) WrongMagic
+    ∷ sizeCheck p (i + servicesSize p i)
+    ∷ sectionChecks (servicesPart p i)
+    ++ check (sameFlags (listOf (servicesPart p i)) f) ServiceFlagsMismatched ∷ []
+
+-- the section's list, absent where there is no section
+abbrev pub servicesOf : List ℕ → Bool → ℕ → MaybeServiceInfo
+servicesOf p present i = cond present (listPresent (listOf (servicesPart p i))) listAbsent

@@ -1,0 +1,55 @@
+// Rule 7: the service section, tested.
+ghost use mathlib.Core.List.{[]};
+ghost use mathlib.Core.Path.{_≡_};
+ghost use Rattle.service_list.specs.Section.{listWith};
+ghost use Rattle.read_services.specs.Services.{sameFlags};
+ghost use Rattle.read_services.specs.Code.{servicesTested};
+use basis::Answer;
+use basis::Tested;
+use service_entries::test_section;
+use values::Flags;
+use values::Packet;
+
+// Tests the section at a place, where the header says that it is there. Its list is made behind the packet's last test,
+// by the reader.
+pub fn test_services(packet: &[u8], flags: Flags, at: u8) -> Tested
+    ensures { λ r. ⌜ r ≡ servicesTested (now (packet .entry)) flags at ⌝ }
+{
+    if !flags.svc_info {
+        return Tested::alone(Answer::done(0));
+    }
+    let size = packet.len();
+    let i = at as usize;
+    if size < i + 2 {
+        return Tested::alone(Answer::length_mismatch(i + 2, size));
+    }
+    if packet[i] != Packet::SVC_INFO_ID {
+        return Tested::alone(Answer::WRONG_MAGIC);
+    }
+    let header = packet[i + 1];
+    let length = 2 + 7 * (header % 16) as usize;
+    if size < i + length {
+        return Tested::alone(Answer::length_mismatch(i + length, size));
+    }
+    let answer = test_section(&packet[i..i + length]);
+    if !answer.is_done() {
+        return Tested::alone(answer);
+    }
+    if !same_flags(header, flags) {
+        return Tested::alone(Answer::SERVICE_FLAGS_MISMATCHED);
+    }
+    Tested::sized(length)
+}
+
+// Whether the three flags of the section's byte 1 are the header's.
+fn same_flags(byte: u8, flags: Flags) -> bool
+    ensures { λ r. ⌜ r ≡ sameFlags (listWith byte []) flags ⌝ }
+{
+    if (byte / 64 % 2 == 1) != flags.svc_info_start {
+        return false;
+    }
+    if (byte / 32 % 2 == 1) != flags.svc_info_change {
+        return false;
+    }
+    (byte / 16 % 2 == 1) == flags.svc_info_complete
+}

@@ -1,0 +1,92 @@
+-- `time_section::TimeCodeSection::parse` is rule 5, test by test.
+-- Assumes nothing.
+use mathlib.Core.Path.{_∙_, sym}
+use native.Mathlib.Omega.{arith}
+use borrow.Author.Tests.{not-true, not-false}
+use Rattle.read_time_code.proofs.TimeCodeReads.{not-there, too-short, other-id, bytes-wrong, time-code-whole}
+use borrow.Author.Needs.{needs}
+use Rattle.read_time_code.proofs.time_code.TimeCodeSection.parse.Statement.{statement}
+use Rattle.read_time_code.proofs.time_code.TimeCodeSection.parse.Tie as tie
+
+done-requires : tie.Need-done-requires
+done-requires c κs = search needs
+
+without-requires : tie.Need-without-requires
+without-requires c κs = search needs
+
+returns : tie.Need-returns
+returns c = c .without .ensures ∙ rw (c .before .done .ensures) (not-there _ _ _ (not-true _ (c .before .before .if1 .taken)))
+
+add-if2 : tie.Need-add-if2
+add-if2 c = search needs
+
+add-length-mismatch : tie.Need-add-length-mismatch
+add-length-mismatch c = search needs
+
+length-mismatch-requires : tie.Need-length-mismatch-requires
+length-mismatch-requires c κs = search needs
+
+without-requires-2 : tie.Need-without-requires-2
+without-requires-2 c κs = search needs
+
+returns-2 : tie.Need-returns-2
+returns-2 c = c .without2 .ensures ∙ rw (c .before .length-mismatch .ensures) (too-short _ _ _ (not-false _ (c .before .before .before .if1 .left)) (omega arith))
+
+shared-slice-read-if3 : tie.Need-shared-slice-read-if3
+shared-slice-read-if3 c = search needs
+
+without-requires-3 : tie.Need-without-requires-3
+without-requires-3 c κs = search needs
+
+returns-3 : tie.Need-returns-3
+returns-3 c = c .without3 .ensures ∙ other-id _ _ _ (not-false _ (c .before .before .before .before .if1 .left)) (omega arith) (λ h. omega arith)
+
+four-behind-requires : tie.Need-four-behind-requires
+four-behind-requires c κs = search needs
+
+parse-requires : tie.Need-parse-requires
+parse-requires c κs = search needs
+
+is-done-requires : tie.Need-is-done-requires
+is-done-requires c κs = search needs
+
+without-requires-4 : tie.Need-without-requires-4
+without-requires-4 c κs = search needs
+
+returns-4 : tie.Need-returns-4
+returns-4 c =
+    let e = rw (c .before .before .before .before .before .four-behind .ensures) at (c .before .before .before .before .parse .ensures) in
+    let wrong = rw e at (sym (c .before .before .is-done .ensures) ∙ not-true _ (c .before .if4 .taken)) in
+    c .without4 .ensures ∙ rw e (bytes-wrong _ _ _ (not-false _ (c .before .before .before .before .before .before .before .before .before .if1 .left)) (omega arith) (omega arith) wrong)
+
+done-requires-2 : tie.Need-done-requires-2
+done-requires-2 c κs = search needs
+
+returns-5 : tie.Need-returns-5
+returns-5 c =
+    let e = rw (c .before .before .before .before .before .before .four-behind .ensures) at (c .before .before .before .before .before .parse .ensures) in
+    let right = rw e at (sym (c .before .before .before .is-done .ensures) ∙ not-false _ (c .before .before .if4 .left)) in
+    rw (c .done2 .ensures, e) (time-code-whole _ _ _ (not-false _ (c .before .before .before .before .before .before .before .before .before .before .if1 .left)) (omega arith) (omega arith) right)
+
+pub parse-spec : {M : Type 1} → statement M
+parse-spec =
+    tie.close
+    (tie.spec
+    done-requires
+    without-requires
+    returns
+    add-if2
+    add-length-mismatch
+    length-mismatch-requires
+    without-requires-2
+    returns-2
+    shared-slice-read-if3
+    without-requires-3
+    returns-3
+    four-behind-requires
+    parse-requires
+    is-done-requires
+    without-requires-4
+    returns-4
+    done-requires-2
+    returns-5)

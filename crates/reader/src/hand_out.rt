@@ -1,0 +1,27 @@
+// Rule 6, behind a packet's last test: its captions, handed out.
+ghost use mathlib.Core.Bool.{cond, true};
+ghost use mathlib.Core.List.{[]};
+ghost use mathlib.Core.Path.{_≡_};
+ghost use Prim.Native.Nat.{_+_, _≤_};
+ghost use lib.ListN.{length};
+ghost use Rattle.basis.specs.Bytes.{over};
+ghost use Rattle.read_captions.specs.Captions.{captionsSize, handedOut};
+ghost use Rattle.reader.specs.Reader.{captionRoom};
+use basis::put;
+
+// Puts C0 + c, FF and the caption bytes of the section at a place at the start of the lent buffer; without a section,
+// nothing. The room is asked for, so that no put refuses.
+pub(crate) fn hand_out(packet: &[u8], present: bool, at: u8, captions: &mut [u8])
+    requires { ⌜ (present ≡ true → at + captionsSize (now packet) at ≤ length (now packet)) ⌝ }
+    requires { ⌜ captionRoom ≤ length (now captions) ⌝ }
+    ensures { λ _. ⌜ now (captions .exit) ≡ over 0 (cond present (handedOut (now (packet .entry)) at) []) (now (captions .entry)) ⌝ }
+{
+    if !present {
+        return;
+    }
+    let i = at as usize;
+    let count = packet[i + 1] % 32;
+    let end = i + (2 + 3 * count as usize);
+    put(captions, 0, &[0xC0 + count, 0xFF]);
+    put(captions, 2, &packet[i + 2..end]);
+}

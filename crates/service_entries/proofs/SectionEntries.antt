@@ -1,0 +1,294 @@
+-- Reading a section, test by test: its frame, the entry at a place, and the entries one after the other.
+-- Assumes nothing.
+use mathlib.Core.Path.{_≡_, _∙_, sym, refl, ap}
+use mathlib.Core.Bool.{Bool, true, false, not, _||_}
+use mathlib.Core.List.{List, [], _∷_, _++_}
+use Prim.Native.Nat.{ℕ, zero, suc, _+_, _-_, _*_, _/_, _%_, _≤_, _<_}
+use native.Mathlib.Nat.{sub-zero}
+use native.Mathlib.Numerals.{add-one}
+use native.Mathlib.Omega.{arith}
+use borrow.Author.Tests.{eq-eqb, ne-eqb, eqb-true, le-leb, lt-leb}
+use lib.Dec.{eqb}
+use lib.ListN.{length, set, replicate, length-append}
+use lib.Seq.{append-snoc, set-append-seam}
+use Rattle.basis.proofs.Verdicts.{and-first, and-second, andThen, done-clear, done-value, kept-first, kept-rest, refused-shows, refused-stays, verdict-append}
+use Rattle.basis.specs.Answer.{LengthMismatch, WrongMagic, InvalidFixedBits, ServiceNumberMismatch, done, refused}
+use Rattle.basis.specs.Bytes.{byte}
+use Rattle.basis.specs.Check.{Check, Verdict, check, clear, sizeCheck, verdict, answer, ifClear}
+use Rattle.basis.specs.Mask.{allSet, x80, x40, x20}
+use Rattle.values.specs.Layout.{servicesId}
+use Rattle.service_entry.specs.Entry.{entryChecks, entryOf, entryRead}
+use Rattle.service_entries.specs.Entries.{checksAt, countOf, entriesOf, entryListChecks, filled, fillers, namedBy, sectionChecks, sectionLength, sixBehind}
+use Rattle.service_entries.specs.Code.{entriesRead, refusedEntries, sectionAnswer, Framed, answerAt}
+use Rattle.service_entry.specs.Service.{filler, numberOf}
+use Rattle.service_entry.specs.declared.entry.ServiceEntry.{ServiceEntry}
+use Rattle.basis.specs.declared.answer.Answer.{Answer}
+use Rattle.service_entries.specs.declared.entries.EntriesRead.{EntriesRead}
+
+implied : (a b : Bool) → (a ≡ true → b ≡ true) → (not a || b) ≡ true
+implied true b h = h refl
+implied false b h = refl
+
+upper : (q : ℕ) → q / 2 % 2 ≡ 1 → (q % 4 ≡ 2 → ⊥) → q % 2 ≡ 1
+upper q a b = omega arith
+
+-- of bits 40 and 20, the one without the other is the only fault
+decide : (header : ℕ) → header / 64 % 2 ≡ 1 → (header / 32 % 4 ≡ 2 → ⊥) → header / 32 % 2 ≡ 1
+decide header a b =
+    let q : header / 64 ≡ header / 32 / 2 = omega arith in
+    upper (header / 32) (rw (← q) a) b
+
+-- what reading the entries gives
+abbrev shownEntries : Answer → List ServiceEntry → EntriesRead
+shownEntries a services = record { answer = a; services = services }
+
+-- S8, as the last of the checks at a place
+abbrev numberCheck : List ℕ → ℕ → Check
+numberCheck d at = check (eqb (namedBy (byte d at)) (numberOf (entryOf (sixBehind d at) .service))) ServiceNumberMismatch
+
+-- S5 to S8
+module _ (d : List ℕ) (at : ℕ) where
+  pub header-no-80 : (byte d at / 128 % 2 ≡ 1 → ⊥) → refused InvalidFixedBits ≡ answerAt d at
+  unfolding answerAt
+  header-no-80 a = simp (ne-eqb _ _ a)
+
+  module _ (has-80 : byte d at / 128 % 2 ≡ 1) where
+    pub header-no-20 : byte d at / 32 % 4 ≡ 2 → refused InvalidFixedBits ≡ answerAt d at
+    unfolding answerAt
+    header-no-20 a =
+        let with-40 : byte d at / 64 % 2 ≡ 1 = omega arith in
+        let no-20 : byte d at / 32 % 2 ≡ 1 → ⊥ = λ h. omega arith in
+        simp (eq-eqb _ _ has-80, eq-eqb _ _ with-40, ne-eqb _ _ no-20)
+
+    module _ (has-20 : byte d at / 32 % 4 ≡ 2 → ⊥) where
+      header-kept : (not (eqb (byte d at / 64 % 2) 1) || eqb (byte d at / 32 % 2) 1) ≡ true
+      header-kept =
+          implied _ _ (λ h.
+          let with-40 : byte d at / 64 % 2 ≡ 1 = eqb-true _ _ h in
+          eq-eqb _ _ (decide (byte d at) with-40 has-20))
+
+      -- behind the header byte's own tests stand the entry's, and behind those the number's
+      as-parts : verdict (checksAt d at) ≡ andThen (verdict (entryChecks (sixBehind d at))) (verdict (numberCheck d at ∷ []))
+      as-parts = simp (eq-eqb _ _ has-80, header-kept) (verdict-append (entryChecks (sixBehind d at)) (numberCheck d at ∷ []))
+
+      -- an entry that is refused by its own rules
+      pub entry-refused : eqb (entryRead (sixBehind d at) .answer .number) 0 ≡ false → entryRead (sixBehind d at) .answer ≡ answerAt d at
+      unfolding entryRead answerAt
+      entry-refused h =
+          ap (λ (v : Verdict). answer v 0)
+          (sym (refused-stays (verdict (entryChecks (sixBehind d at))) (verdict (numberCheck d at ∷ [])) 0 h) ∙ sym as-parts)
+
+      module _ (read : eqb (entryRead (sixBehind d at) .answer .number) 0 ≡ true) where
+        own-clear : verdict (entryChecks (sixBehind d at)) ≡ clear
+        unfolding entryRead
+        own-clear = done-clear (verdict (entryChecks (sixBehind d at))) 0 read
+
+        whole : entryRead (sixBehind d at) .entry ≡ entryOf (sixBehind d at)
+        unfolding entryRead
+        whole = ap (λ (v : Verdict). ifClear v (entryOf (sixBehind d at)) filler) own-clear
+
+        last-check : answer (verdict (numberCheck d at ∷ [])) 0 ≡ answerAt d at
+        unfolding answerAt
+        last-check =
+            ap (λ (v : Verdict). answer (andThen v (verdict (numberCheck d at ∷ []))) 0) (sym own-clear)
+            ∙ ap (λ (v : Verdict). answer v 0) (sym as-parts)
+
+        pub other-number : (namedBy (byte d at) ≡ numberOf (entryRead (sixBehind d at) .entry .service) → ⊥) → refused ServiceNumberMismatch ≡ answerAt d at
+        other-number h =
+            let other : namedBy (byte d at) ≡ numberOf (entryOf (sixBehind d at) .service) → ⊥ = rw whole at h in
+            rw (← last-check) (simp (ne-eqb _ _ other))
+
+        pub same-number : namedBy (byte d at) ≡ numberOf (entryRead (sixBehind d at) .entry .service) → done 0 ≡ answerAt d at
+        same-number h =
+            let same : namedBy (byte d at) ≡ numberOf (entryOf (sixBehind d at) .service) = rw whole at h in
+            rw (← last-check) (simp (eq-eqb _ _ same))
+
+-- the entries one after the other: what the first k from a place on hold, and what is left to test
+unfoldable pub firstRead : List ℕ → ℕ → ℕ → List ServiceEntry
+firstRead d from k = filled (entriesOf d from k)
+
+unfoldable pub left : List ℕ → ℕ → ℕ → Verdict
+left d k count = verdict (entryListChecks d (2 + 7 * k) (count - k))
+
+-- one entry more at the end
+entries-more : (d : List ℕ) (at n : ℕ) → entriesOf d at (suc n) ≡ entriesOf d at n ++ entryOf (sixBehind d (at + 7 * n)) ∷ []
+entries-more d at zero =
+    let e : at ≡ at + 7 * 0 = omega arith in
+    ap (λ (n : ℕ). entryOf (sixBehind d n) ∷ []) e
+entries-more d at (suc n) =
+    let e : at + 7 + 7 * n ≡ at + 7 * suc n = omega arith in
+    ap (λ (es : List ServiceEntry). entryOf (sixBehind d at) ∷ es)
+    (entries-more d (at + 7) n ∙ ap (λ (m : ℕ). entriesOf d (at + 7) n ++ entryOf (sixBehind d m) ∷ []) e)
+
+entries-length : (d : List ℕ) (at n : ℕ) → length (entriesOf d at n) ≡ n
+entries-length d at zero = refl
+entries-length d at (suc n) = ap suc (entries-length d (at + 7) n)
+
+-- the places of a list with one entry more
+pub filled-more : (es : List ServiceEntry) (e : ServiceEntry) → length es < 15 → set (filled es) (length es) e ≡ filled (es ++ e ∷ [])
+unfolding filled
+filled-more es e h =
+    let m : ℕ = 14 - length es in
+    let before : 15 - length es ≡ suc m = omega arith in
+    let after : m ≡ 15 - length (es ++ e ∷ []) = simp length-append (omega arith) in
+    ap (λ (n : ℕ). set (es ++ replicate n filler) (length es) e) before
+    ∙ set-append-seam es filler (replicate m filler) e
+    ∙ sym (append-snoc es e (replicate m filler))
+    ∙ ap (λ (n : ℕ). es ++ e ∷ [] ++ replicate n filler) after
+
+module _ (d : List ℕ) (from k : ℕ) where
+  pub first-none : fillers ≡ firstRead d from 0
+  unfolding firstRead filled
+  first-none = refl
+
+  pub first-more : k < 15 → set (firstRead d from k) k (entryOf (sixBehind d (from + 7 * k))) ≡ firstRead d from (k + 1)
+  unfolding firstRead
+  first-more h =
+      let es : List ServiceEntry = entriesOf d from k in
+      let e : ServiceEntry = entryOf (sixBehind d (from + 7 * k)) in
+      let long : length es ≡ k = entries-length d from k in
+      ap (λ (n : ℕ). set (filled es) n e) (sym long)
+      ∙ filled-more es e (omega arith)
+      ∙ ap filled (sym (entries-more d from k))
+      ∙ ap (λ (n : ℕ). filled (entriesOf d from n)) (sym (add-one k))
+
+  pub first-all : (count : ℕ) → k ≡ count → firstRead d from k ≡ filled (entriesOf d from count)
+  unfolding firstRead
+  first-all count h = rw h
+
+module _ (d : List ℕ) (k count : ℕ) where
+  pub left-first : verdict (entryListChecks d 2 count) ≡ left d 0 count
+  unfolding left
+  left-first = rw (sub-zero count)
+
+  -- what is left at k is the entry at k and what is left behind it
+  left-step : k < count → left d k count ≡ andThen (verdict (checksAt d (2 + 7 * k))) (left d (k + 1) count)
+  unfolding left
+  left-step h =
+      let at : ℕ = 2 + 7 * k in
+      let rest : ℕ = count - (k + 1) in
+      let before : count - k ≡ suc rest = omega arith in
+      let after : at + 7 ≡ 2 + 7 * (k + 1) = omega arith in
+      ap (λ (n : ℕ). verdict (entryListChecks d at n)) before
+      ∙ verdict-append (checksAt d at) (entryListChecks d (at + 7) rest)
+      ∙ ap (λ (n : ℕ). andThen (verdict (checksAt d at)) (verdict (entryListChecks d n rest))) after
+
+  pub left-none : count ≤ k → left d k count ≡ clear
+  unfolding left
+  left-none h =
+      let none : count - k ≡ 0 = omega arith in
+      rw none
+
+  pub left-goes-on : k < count → eqb (answerAt d (2 + 7 * k) .number) 0 ≡ true → left d k count ≡ left d (k + 1) count
+  unfolding answerAt
+  left-goes-on h r = left-step h ∙ ap (λ (v : Verdict). andThen v (left d (k + 1) count)) (done-clear (verdict (checksAt d (2 + 7 * k))) 0 r)
+
+-- S1 to S4, where one of them is the first that fails
+module _ (d : List ℕ) where
+  pub too-short : length d < 2 → refused (LengthMismatch 2 (length d)) ≡ sectionAnswer d
+  unfolding sectionAnswer sectionChecks
+  too-short h = simp (lt-leb _ _ h)
+
+  pub other-id : 2 ≤ length d → (byte d 0 ≡ servicesId → ⊥) → refused WrongMagic ≡ sectionAnswer d
+  unfolding sectionAnswer sectionChecks
+  other-id h a = simp (le-leb _ _ h, ne-eqb _ _ a)
+
+  pub no-80 : 2 ≤ length d → byte d 0 ≡ servicesId → (byte d 1 / 128 % 2 ≡ 1 → ⊥) → refused InvalidFixedBits ≡ sectionAnswer d
+  unfolding sectionAnswer sectionChecks
+  no-80 h a b = simp (le-leb _ _ h, eq-eqb _ _ a, ne-eqb _ _ b)
+
+  pub other-size : 2 ≤ length d → byte d 0 ≡ servicesId → byte d 1 / 128 % 2 ≡ 1 → (length d ≡ sectionLength (byte d 1 % 16) → ⊥)
+      → refused (LengthMismatch (sectionLength (byte d 1 % 16)) (length d)) ≡ sectionAnswer d
+  unfolding sectionAnswer sectionChecks
+  other-size h a b s =
+      let n : byte d 1 / 1 % 16 ≡ byte d 1 % 16 = omega arith in
+      simp (n, le-leb _ _ h, eq-eqb _ _ a, eq-eqb _ _ b, ne-eqb _ _ s)
+
+-- S1 to S4 kept: the entries decide
+module _ (d : List ℕ) (header : ℕ) (framed : Framed d header) where
+  count-is : countOf d ≡ header % 16
+  count-is = omega (arith, framed .first)
+
+  frame-kept : verdict (sectionChecks d) ≡ left d 0 (header % 16)
+  unfolding sectionChecks
+  frame-kept =
+      let two : 2 ≤ length d = omega (arith, framed .size) in
+      let fixed : byte d 1 / 128 % 2 ≡ 1 = rw (framed .first) (framed .fixed) in
+      simp (le-leb _ _ two, eq-eqb _ _ (framed .id), eq-eqb _ _ fixed, count-is, eq-eqb _ _ (framed .size)) (left-first d 0 (header % 16))
+
+  pub section-refused : (k : ℕ) → k < header % 16 → left d 0 (header % 16) ≡ left d k (header % 16)
+      → eqb (answerAt d (2 + 7 * k) .number) 0 ≡ false → answerAt d (2 + 7 * k) ≡ sectionAnswer d
+  unfolding sectionAnswer answerAt
+  section-refused k h so-far r =
+      ap (λ (v : Verdict). answer v 0)
+      (sym (refused-stays (verdict (checksAt d (2 + 7 * k))) (left d (k + 1) (header % 16)) 0 r)
+      ∙ sym (frame-kept ∙ so-far ∙ left-step d k (header % 16) h))
+
+  pub section-whole : (k : ℕ) → k ≡ header % 16 → left d 0 (header % 16) ≡ left d k (header % 16) → done 0 ≡ sectionAnswer d
+  unfolding sectionAnswer
+  section-whole k h so-far = ap (λ (v : Verdict). answer v 0) (sym (frame-kept ∙ so-far ∙ left-none d k (header % 16) (omega arith)))
+
+-- reading shows what a section holds where the tests are clear, and fillers where they are not
+module _ (d : List ℕ) where
+  pub entries-refused : eqb (sectionAnswer d .number) 0 ≡ false → refusedEntries (sectionAnswer d) ≡ entriesRead d
+  unfolding sectionAnswer entriesRead
+  entries-refused h = refused-shows shownEntries (verdict (sectionChecks d)) 0 0 (filled (entriesOf d 2 (countOf d))) fillers h
+
+  pub section-clear : eqb (sectionAnswer d .number) 0 ≡ true → verdict (sectionChecks d) ≡ clear
+  unfolding sectionAnswer
+  section-clear h = done-clear (verdict (sectionChecks d)) 0 h
+
+  pub entries-read : eqb (sectionAnswer d .number) 0 ≡ true → shownEntries (sectionAnswer d) (filled (entriesOf d 2 (countOf d))) ≡ entriesRead d
+  unfolding sectionAnswer entriesRead
+  entries-read h = ap (shownEntries (answer (verdict (sectionChecks d)) 0)) (sym (done-value (verdict (sectionChecks d)) 0 (filled (entriesOf d 2 (countOf d))) fillers h))
+
+-- of entries that are right, each is right by its own rules, so that its own reader gives what its bytes hold
+module _ (d : List ℕ) where
+  at-kept : (from count k : ℕ) → k < count → verdict (entryListChecks d from count) ≡ clear → verdict (checksAt d (from + 7 * k)) ≡ clear
+  at-kept from zero k h v = absurd (omega arith)
+  at-kept from (suc n) zero h v =
+      let e : from ≡ from + 7 * 0 = omega arith in
+      rw (← e) (and-first (verdict (checksAt d from)) (verdict (entryListChecks d (from + 7) n)) (sym (verdict-append (checksAt d from) (entryListChecks d (from + 7) n)) ∙ v))
+  at-kept from (suc n) (suc k) h v =
+      let e : from + 7 + 7 * k ≡ from + 7 * suc k = omega arith in
+      rw (← e)
+      (at-kept (from + 7) n k (omega arith)
+      (and-second (verdict (checksAt d from)) (verdict (entryListChecks d (from + 7) n)) (sym (verdict-append (checksAt d from) (entryListChecks d (from + 7) n)) ∙ v)))
+
+  pub entry-held : (from count k : ℕ) → verdict (entryListChecks d from count) ≡ clear → k < count
+      → entryRead (sixBehind d (from + 7 * k)) .entry ≡ entryOf (sixBehind d (from + 7 * k))
+  unfolding entryRead
+  entry-held from count k v h =
+      let at : ℕ = from + 7 * k in
+      let bit : Check = check (allSet x80 (byte d at)) InvalidFixedBits in
+      let named : Check = check (not (allSet x40 (byte d at)) || allSet x20 (byte d at)) InvalidFixedBits in
+      let behind : List Check = entryChecks (sixBehind d at) ++ numberCheck d at ∷ [] in
+      let own : verdict (entryChecks (sixBehind d at)) ≡ clear =
+      and-first _ (verdict (numberCheck d at ∷ [])) (sym (verdict-append (entryChecks (sixBehind d at)) (numberCheck d at ∷ [])) ∙ kept-rest named behind (kept-rest bit (named ∷ behind) (at-kept from count k h v))) in
+      rw own
+
+-- a section that is right has all its bytes, and its entries are right
+module _ (d : List ℕ) (right : verdict (sectionChecks d) ≡ clear) where
+  abbrev idCheck : Check
+  idCheck = check (eqb (byte d 0) servicesId) WrongMagic
+
+  abbrev bitCheck : Check
+  bitCheck = check (allSet x80 (byte d 1)) InvalidFixedBits
+
+  abbrev lengthCheck : Check
+  lengthCheck = check (eqb (length d) (sectionLength (countOf d))) (LengthMismatch (sectionLength (countOf d)) (length d))
+
+  abbrev own : List Check
+  own = entryListChecks d 2 (countOf d)
+
+  from-size : verdict (lengthCheck ∷ own) ≡ clear
+  unfolding sectionChecks
+  from-size = kept-rest bitCheck (lengthCheck ∷ own) (kept-rest idCheck (bitCheck ∷ lengthCheck ∷ own) (kept-rest (sizeCheck d 2) (idCheck ∷ bitCheck ∷ lengthCheck ∷ own) right))
+
+  pub section-long : length d ≡ 2 + 7 * (byte d 1 % 16)
+  section-long =
+      let said : length d ≡ sectionLength (countOf d) = eqb-true _ _ (kept-first lengthCheck own from-size) in
+      omega (arith, said)
+
+  pub entries-right : verdict (entryListChecks d 2 (countOf d)) ≡ clear
+  entries-right = kept-rest lengthCheck own from-size

@@ -1,0 +1,77 @@
+-- `svc_entries::testing::test_entries`: after k turns what is left to test are the entries from k on.
+-- Assumes nothing.
+use mathlib.Core.Path.{_≡_, _∙_, sym, refl}
+use Prim.Native.Nat.{_≤_, _-_}
+use native.Mathlib.Omega.{arith}
+use borrow.Author.Needs.{needs}
+use borrow.Author.Tests.{not-true, not-false}
+use Rattle.service_entries.proofs.SectionEntries.{left, left-goes-on, section-refused, section-whole}
+use Rattle.service_entries.proofs.section_tests.test_entries.Statement.{statement}
+use Rattle.service_entries.proofs.section_tests.test_entries.Tie as tie
+
+abbrev Inv-loop : tie.InvT-loop
+Inv-loop «data» header count k₀ k = (k ≤ count) × (left «data» 0 count ≡ left «data» k count)
+
+abbrev μ-loop : tie.MeasureT-loop
+μ-loop «data» header count k₀ k = count - k
+
+cast-count : tie.Need-cast-count Inv-loop μ-loop
+cast-count c = search needs
+
+loop-holds : tie.Need-loop-holds Inv-loop μ-loop
+loop-holds c = (omega arith, refl)
+
+mul-test-at : tie.Need-mul-test-at Inv-loop μ-loop
+mul-test-at c = search needs
+
+add-test-at : tie.Need-add-test-at Inv-loop μ-loop
+add-test-at c = search needs
+
+test-at-requires : tie.Need-test-at-requires Inv-loop μ-loop
+test-at-requires c κs = omega arith
+
+is-done-requires : tie.Need-is-done-requires Inv-loop μ-loop
+is-done-requires c κs = search needs
+
+returns : tie.Need-returns Inv-loop μ-loop
+returns c =
+    let e = c .before .before .test-at .ensures in
+    e
+    ∙ section-refused _ _ (c .before .before .before .before .before .before .pre) _ (omega arith) (c .before .before .before .before .loop .inv .1)
+    (rw e at (sym (c .before .is-done .ensures) ∙ not-true _ (c .if1 .taken)))
+
+add-k : tie.Need-add-k Inv-loop μ-loop
+add-k c = search needs
+
+loop-less : tie.Need-loop-less Inv-loop μ-loop
+loop-less c = search needs
+
+loop-again : tie.Need-loop-again Inv-loop μ-loop
+loop-again c =
+    let r = rw (c .before .before .test-at .ensures) at (sym (c .before .is-done .ensures) ∙ not-false _ (c .if1 .left)) in
+    (omega arith, c .before .before .before .before .loop .inv .1 ∙ left-goes-on _ _ _ (omega arith) r)
+
+done-requires : tie.Need-done-requires Inv-loop μ-loop
+done-requires c κs = search needs
+
+returns-2 : tie.Need-returns-2 Inv-loop μ-loop
+returns-2 c = c .done .ensures ∙ section-whole _ _ (c .before .before .before .before .pre) _ (omega arith) (c .before .before .loop .inv .1)
+
+pub test-entries-spec : {M : Type 1} → statement M
+test-entries-spec =
+    tie.close
+    (tie.spec
+    Inv-loop
+    μ-loop
+    cast-count
+    loop-holds
+    mul-test-at
+    add-test-at
+    test-at-requires
+    is-done-requires
+    returns
+    add-k
+    loop-less
+    loop-again
+    done-requires
+    returns-2)

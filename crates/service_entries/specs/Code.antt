@@ -1,0 +1,36 @@
+-- Follows the code and not the rules: the steps in which a section is tested, and its entries as they are read before the list is made.
+use mathlib.Core.List.{List}
+use mathlib.Core.Path.{_≡_}
+use Prim.Native.Nat.{ℕ, _+_, _*_, _/_, _%_}
+use lib.ListN.{length}
+use Rattle.basis.specs.Bytes.{byte}
+use Rattle.basis.specs.Check.{verdict, answer, ifClear}
+use Rattle.values.specs.Layout.{servicesId}
+use Rattle.service_entries.specs.Entries.{checksAt, filled, fillers, countOf, entriesOf, sectionChecks}
+use Rattle.basis.specs.declared.answer.Answer.{Answer}
+use Rattle.service_entries.specs.declared.entries.EntriesRead.{EntriesRead}
+
+-- S1 to S4 as one fact: what holds where the entries are tested
+pub record Framed (d : List ℕ) (header : ℕ) : Type 0 where
+  pub id : byte d 0 ≡ servicesId
+  pub first : byte d 1 ≡ header
+  pub fixed : header / 128 % 2 ≡ 1
+  pub size : length d ≡ 2 + 7 * (header % 16)
+
+-- what testing a header byte and its entry gives
+unfoldable pub answerAt : List ℕ → ℕ → Answer
+answerAt d at = answer (verdict (checksAt d at)) 0
+
+-- what testing a section alone gives
+unfoldable pub sectionAnswer : List ℕ → Answer
+sectionAnswer d = answer (verdict (sectionChecks d)) 0
+
+-- what reading its entries gives
+unfoldable pub entriesRead : List ℕ → EntriesRead
+entriesRead d =
+    let v = verdict (sectionChecks d) in
+    record { answer = answer v 0; services = ifClear v (filled (entriesOf d 2 (countOf d))) fillers }
+
+-- a refusal shows no entry
+abbrev pub refusedEntries : Answer → EntriesRead
+refusedEntries a = record { answer = a; services = fillers }

@@ -1,0 +1,70 @@
+-- Rules S1 to S8: the checks of a section, and the entries that it holds.
+use mathlib.Core.Bool.{cond, not, _||_}
+use mathlib.Core.List.{List, [], _∷_, _++_}
+use Prim.Native.Nat.{ℕ, zero, suc, _+_, _-_, _*_}
+use lib.Dec.{eqb}
+use lib.ListN.{length, replicate}
+use Rattle.basis.specs.Answer.{LengthMismatch, WrongMagic, InvalidFixedBits, ServiceNumberMismatch}
+use Rattle.basis.specs.Bytes.{byte}
+use Rattle.basis.specs.Check.{Check, check, sizeCheck}
+use Rattle.basis.specs.Mask.{under, allSet, x80, x40, x20, x3F, x1F, x0F}
+use Rattle.values.specs.Layout.{servicesId}
+use Rattle.service_entry.specs.Entry.{entryChecks, entryOf}
+use Rattle.service_entry.specs.Service.{filler, numberOf}
+use Rattle.service_entry.specs.declared.entry.ServiceEntry.{ServiceEntry}
+
+-- how many entries a list has places for
+abbrev pub places : ℕ
+places = 15
+
+-- the entries in the first places, the filler in the others
+unfoldable pub filled : List ServiceEntry → List ServiceEntry
+filled entries = entries ++ replicate (places - length entries) filler
+
+abbrev pub fillers : List ServiceEntry
+fillers = replicate places filler
+
+-- the length of a section with so many entries
+abbrev pub sectionLength : ℕ → ℕ
+sectionLength count = 2 + 7 * count
+
+-- S4: the count of entries is the low four bits of byte 1
+abbrev pub countOf : List ℕ → ℕ
+countOf d = under x0F (byte d 1)
+
+-- S1 to S4: two bytes; 73; bit 80 of byte 1; seven bytes for each entry behind these two
+abbrev pub frameChecks : List ℕ → List Check
+frameChecks d =
+    sizeCheck d 2
+    ∷ check (eqb (byte d 0) servicesId) WrongMagic
+    ∷ check (allSet x80 (byte d 1)) InvalidFixedBits
+    ∷ check (eqb (length d) (sectionLength (countOf d))) (LengthMismatch (sectionLength (countOf d)) (length d))
+    ∷ []
+
+-- S6: with 40 the low five bits of an entry's header byte, without it the low six
+abbrev pub namedBy : ℕ → ℕ
+namedBy header = cond (allSet x40 header) (under x1F header) (under x3F header)
+
+-- the six bytes behind the header byte at a place
+abbrev pub sixBehind : List ℕ → ℕ → List ℕ
+sixBehind d at = byte d (at + 1) ∷ byte d (at + 2) ∷ byte d (at + 3) ∷ byte d (at + 4) ∷ byte d (at + 5) ∷ byte d (at + 6) ∷ []
+
+-- S5 to S8 at a place: bit 80; with 40 also 20; the entry's own rules; the number named is the one held
+abbrev pub checksAt : List ℕ → ℕ → List Check
+checksAt d at =
+    check (allSet x80 (byte d at)) InvalidFixedBits
+    ∷ check (not (allSet x40 (byte d at)) || allSet x20 (byte d at)) InvalidFixedBits
+    ∷ entryChecks (sixBehind d at)
+    ++ check (eqb (namedBy (byte d at)) (numberOf (entryOf (sixBehind d at) .service))) ServiceNumberMismatch ∷ []
+
+-- so many entries from a place on, first to last: their checks, and what they hold
+abbrev pub entryListChecks : List ℕ → ℕ → ℕ → List Check
+entryListChecks d at zero = []
+entryListChecks d at (suc n) = checksAt d at ++ entryListChecks d (at + 7) n
+
+abbrev pub entriesOf : List ℕ → ℕ → ℕ → List ServiceEntry
+entriesOf d at zero = []
+entriesOf d at (suc n) = entryOf (sixBehind d at) ∷ entriesOf d (at + 7) n
+
+unfoldable pub sectionChecks : List ℕ → List Check
+sectionChecks d = frameChecks d ++ entryListChecks d 2 (countOf d)

@@ -1,0 +1,112 @@
+// Rules S1 to S8: a section, tested.
+ghost use mathlib.Core.Path.{_≡_};
+ghost use Prim.Native.Nat.{_+_, _≤_};
+ghost use lib.ListN.{length};
+ghost use Rattle.service_entries.specs.Entries as Entries;
+ghost use Rattle.service_entries.specs.Code as Code;
+ghost use Rattle.service_entry.specs.Service as Service;
+use basis::Answer;
+use service_entry::FieldOrService;
+use service_entry::ServiceEntry;
+use values::Packet;
+
+// Tests a section that stands alone, and makes nothing of it.
+pub fn test_section(data: &[u8]) -> Answer
+    ensures { λ r. ⌜ r ≡ Code.sectionAnswer (now («data» .entry)) ⌝ }
+{
+    let size = data.len();
+    if size < 2 {
+        return Answer::length_mismatch(2, size);
+    }
+    if data[0] != Packet::SVC_INFO_ID {
+        return Answer::WRONG_MAGIC;
+    }
+    let header = data[1];
+    // Bit 80 is set.
+    if header / 128 % 2 != 1 {
+        return Answer::INVALID_FIXED_BITS;
+    }
+    let expected = 2 + 7 * (header % 16) as usize;
+    if size != expected {
+        return Answer::length_mismatch(expected, size);
+    }
+    test_entries(data, header)
+}
+
+// Tests the entries behind the section's two bytes, first to last.
+fn test_entries(data: &[u8], header: u8) -> Answer
+    requires { ⌜ Code.Framed (now «data») header ⌝ }
+    ensures { λ r. ⌜ r ≡ Code.sectionAnswer (now («data» .entry)) ⌝ }
+{
+    let count = (header % 16) as usize;
+    for k in 0..count {
+        let answer = test_at(data, 2 + 7 * k);
+        if !answer.is_done() {
+            return answer;
+        }
+    }
+    Answer::done(0)
+}
+
+// Tests the header byte at a place and the entry behind it.
+fn test_at(data: &[u8], at: usize) -> Answer
+    requires { ⌜ at + 7 ≤ length (now «data») ⌝ }
+    ensures { λ r. ⌜ r ≡ Code.answerAt (now («data» .entry)) at ⌝ }
+{
+    let header = data[at];
+    // Bit 80 is set.
+    if header / 128 % 2 != 1 {
+        return Answer::INVALID_FIXED_BITS;
+    }
+    // Bit 40 is clear, or 20 is set too.
+    if header / 32 % 4 == 2 {
+        return Answer::INVALID_FIXED_BITS;
+    }
+    let read = ServiceEntry::parse(six_behind(data, at));
+    let answer = read.answer;
+    if !answer.is_done() {
+        return answer;
+    }
+    let entry = read.entry;
+    let service = entry.service;
+    if named_by(header) != number_of(service) {
+        return Answer::SERVICE_NUMBER_MISMATCH;
+    }
+    Answer::done(0)
+}
+
+// The six bytes behind a header byte.
+pub(crate) fn six_behind(data: &[u8], at: usize) -> [u8; 6]
+    requires { ⌜ at + 7 ≤ length (now «data») ⌝ }
+    ensures { λ r. ⌜ r ≡ Entries.sixBehind (now («data» .entry)) at ⌝ }
+{
+    [
+        data[at + 1],
+        data[at + 2],
+        data[at + 3],
+        data[at + 4],
+        data[at + 5],
+        data[at + 6],
+    ]
+}
+
+// The number that an entry's header byte names.
+fn named_by(header: u8) -> u8
+    ensures { λ r. ⌜ r ≡ Entries.namedBy header ⌝ }
+{
+    if header / 64 % 2 == 1 {
+        header % 32
+    } else {
+        header % 64
+    }
+}
+
+// The number that the header byte has to name.
+fn number_of(service: FieldOrService) -> u8
+    ensures { λ r. ⌜ r ≡ Service.numberOf service ⌝ }
+{
+    match service {
+        FieldOrService::Field(_) => 0,
+        FieldOrService::Service(digital) => digital.service,
+    }
+}

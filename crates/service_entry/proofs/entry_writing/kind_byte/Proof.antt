@@ -1,0 +1,28 @@
+-- `entries::writing::kind_byte`: an entry's byte 3, by what it names.
+-- Assumes nothing.
+use borrow.Author.Needs.{needs}
+use Rattle.service_entry.proofs.entry_writing.kind_byte.Statement.{statement}
+use Rattle.service_entry.proofs.entry_writing.kind_byte.Tie as tie
+
+enum-known-service : tie.Need-enum-known-service
+enum-known-service c = search needs
+
+enum-known-service-2 : tie.Need-enum-known-service-2
+enum-known-service-2 c = search needs
+
+add-result : tie.Need-add-result
+add-result c = search needs
+
+returns : tie.Need-returns
+returns c = search needs
+
+returns-2 : tie.Need-returns-2
+returns-2 c = search needs
+
+returns-3 : tie.Need-returns-3
+returns-3 c = rw (c .before .before .service2 .given .1)
+
+pub kind-byte-spec : {M : Type 1} → statement M
+kind-byte-spec =
+    tie.close
+    (tie.spec enum-known-service enum-known-service-2 add-result returns returns-2 returns-3)

@@ -1,0 +1,4 @@
+pub mod Service
+pub mod Entry
+pub mod EntryWriting
+pub mod Code

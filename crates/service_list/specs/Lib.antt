@@ -1,0 +1,5 @@
+pub mod ServiceList
+pub mod Section
+pub mod SectionWriting
+pub mod SectionBack
+pub mod Code

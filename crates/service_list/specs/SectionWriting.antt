@@ -1,0 +1,47 @@
+-- Writing a section.
+use mathlib.Core.List.{List, [], _∷_, _++_}
+use Prim.Native.Nat.{ℕ, zero, suc, _+_}
+use lib.ListN.{getD, length}
+use Rattle.basis.specs.Check.{Check, roomCheck, verdict}
+use Rattle.basis.specs.Mask.{flag}
+use Rattle.values.specs.Layout.{servicesId}
+use Rattle.service_entry.specs.Service.{filler}
+use Rattle.service_entry.specs.EntryWriting.{Written, written, entryCheck, sevenBytes}
+use Rattle.service_entries.specs.Entries.{sectionLength}
+use Rattle.service_list.specs.ServiceList.{countCheck}
+use Rattle.service_list.specs.declared.list.ServiceInfo.{ServiceInfo}
+use Rattle.service_entry.specs.declared.entry.ServiceEntry.{ServiceEntry}
+
+-- the checks, and the bytes, of entries one after the other
+abbrev pub entryWriteChecks : List ServiceEntry → List Check
+entryWriteChecks [] = []
+entryWriteChecks (e ∷ es) = entryCheck e ∷ entryWriteChecks es
+
+abbrev pub entryListBytes : List ServiceEntry → List ℕ
+entryListBytes [] = []
+entryListBytes (e ∷ es) = sevenBytes e ++ entryListBytes es
+
+-- so many places from one on
+abbrev pub placesFrom : List ServiceEntry → ℕ → ℕ → List ServiceEntry
+placesFrom services k zero = []
+placesFrom services k (suc n) = getD services k filler ∷ placesFrom services (k + 1) n
+
+-- the entries that the list counts; places past the count are unread
+abbrev pub counted : ServiceInfo → List ServiceEntry
+counted l = placesFrom (l .services) 0 (l .count)
+
+-- byte 1: 80, then 40 start, 20 change, 10 complete, and the count
+abbrev pub sectionByte : ServiceInfo → ℕ
+sectionByte l = 0x80 + flag (l .start) 0x40 + flag (l .change) 0x20 + flag (l .complete) 0x10 + l .count
+
+unfoldable pub sectionBytes : ServiceInfo → List ℕ
+sectionBytes l = servicesId ∷ sectionByte l ∷ entryListBytes (counted l)
+
+-- count, then entries: whether a list can be written at all
+abbrev pub valueChecks : ServiceInfo → List Check
+valueChecks l = countCheck l ∷ entryWriteChecks (counted l)
+
+-- a section: count, entries, room
+unfoldable pub sectionWritten : ServiceInfo → List ℕ → Written
+sectionWritten l buffer =
+    written (verdict (valueChecks l ++ roomCheck (sectionLength (l .count)) (length buffer) ∷ [])) (sectionBytes l) buffer

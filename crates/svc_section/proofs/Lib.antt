@@ -1,2 +1,0 @@
-pub mod SvcInfoReads
-pub mod SvcInfoAlone

@@ -1,2 +1,0 @@
-pub mod SvcInfo
-pub mod Code

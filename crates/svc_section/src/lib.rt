@@ -1,4 +1,0 @@
-// The service section of a packet, which the header has to agree with: a block of CDPParser::parse in the Rust.
-mod section;
-
-pub use section::svc_info;

@@ -1,0 +1,62 @@
+-- `reader_sweep::bytes::put_all`: after k turns the first k bytes are put.
+-- Assumes nothing.
+use mathlib.Core.Path.{_≡_}
+use Prim.Native.Nat.{_≤_, _-_}
+use lib.ListN.{length, take}
+use lib.Seq.{take-all}
+use Rattle.sweep_reader.specs.Room.{PutInRoom}
+use Rattle.sweep_reader.proofs.Rooms.{behind-as, nothing, one-more}
+use native.Mathlib.Omega.{arith}
+use borrow.Author.Needs.{needs}
+use Rattle.sweep_reader.proofs.bytes.put_all.Statement.{statement}
+use Rattle.sweep_reader.proofs.bytes.put_all.Tie as tie
+
+abbrev Inv-loop : tie.InvT-loop
+Inv-loop out₀ from bytes at₀ k₀ k-end out at k = (k ≤ length bytes) × (length out ≡ length out₀) × PutInRoom from (take k bytes) out₀ at out
+
+abbrev μ-loop : tie.MeasureT-loop
+μ-loop out₀ from bytes at₀ k₀ k-end out at k = length bytes - k
+
+loop-holds : tie.Need-loop-holds Inv-loop μ-loop
+loop-holds c = (omega arith, omega arith, nothing _ _)
+
+shared-slice-read-put : tie.Need-shared-slice-read-put Inv-loop μ-loop
+shared-slice-read-put c = search needs
+
+put-requires : tie.Need-put-requires Inv-loop μ-loop
+put-requires c κs = search needs
+
+add-k : tie.Need-add-k Inv-loop μ-loop
+add-k c = search needs
+
+loop-less : tie.Need-loop-less Inv-loop μ-loop
+loop-less c = search needs
+
+loop-again : tie.Need-loop-again Inv-loop μ-loop
+loop-again c =
+    let s = c .before .before in
+    let t = s .before .before .before .before in
+    (omega arith, omega arith, behind-as (t .loop .inv .2) (s .put .ensures) (one-more (t .before .before .before .args .bytes .now) (t .loop .k) (omega arith)))
+
+same-length : tie.Need-same-length Inv-loop μ-loop
+same-length c = search needs
+
+returns : tie.Need-returns Inv-loop μ-loop
+returns c =
+    let h : length (c .before .before .before .before .args .bytes .now) ≤ c .before .loop .k = omega arith in
+    rw take-all at (c .before .loop .inv .2)
+
+pub put-all-spec : {M : Type 1} → statement M
+put-all-spec =
+    tie.close
+    (tie.spec
+    Inv-loop
+    μ-loop
+    loop-holds
+    shared-slice-read-put
+    put-requires
+    add-k
+    loop-less
+    loop-again
+    same-length
+    returns)

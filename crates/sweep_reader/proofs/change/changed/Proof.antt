@@ -1,0 +1,46 @@
+-- `reader_sweep::change::changed`: the byte is put, the packet mended and read.
+-- Assumes nothing.
+use mathlib.Core.Path.{_∙_, ap}
+use Rattle.sweep_reader.specs.Change.{mendedIf}
+use Rattle.sweep_reader.proofs.Rooms.{put-set}
+use borrow.Author.Needs.{needs}
+use Rattle.sweep_reader.proofs.change.changed.Statement.{statement}
+use Rattle.sweep_reader.proofs.change.changed.Tie as tie
+
+cast-put : tie.Need-cast-put
+cast-put c = search needs
+
+put-requires : tie.Need-put-requires
+put-requires c κs = search needs
+
+mended-requires : tie.Need-mended-requires
+mended-requires c κs = search needs
+
+packet-requires : tie.Need-packet-requires
+packet-requires c κs = search needs
+
+same-length : tie.Need-same-length
+same-length c = search needs
+
+same-length-2 : tie.Need-same-length-2
+same-length-2 c = search needs
+
+returns : tie.Need-returns
+returns c =
+    let s = c .before .before in
+    let m = s .before .before .before .before .before in
+    let p = m .before .before .before .before in
+    let e = m .mended .ensures ∙ ap (mendedIf (p .before .before .before .before .args .change)) (put-set _ _ _ (p .put .ensures)) in
+    (rw e at (s .packet3 .ensures .0), (e, rw e at (s .packet3 .ensures .1)))
+
+pub changed-spec : {M : Type 1} → statement M
+changed-spec =
+    tie.close
+    (tie.spec
+    cast-put
+    put-requires
+    mended-requires
+    packet-requires
+    same-length
+    same-length-2
+    returns)

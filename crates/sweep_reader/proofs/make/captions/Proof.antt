@@ -1,0 +1,50 @@
+-- `reader_sweep::make::captions`: the section's two bytes and the captions, where the flags say so.
+-- Assumes nothing.
+use borrow.Author.Tests.{eq-eqb, ne-eqb}
+use Rattle.sweep_reader.specs.Make.{captionsMade}
+use Rattle.sweep_reader.proofs.Rooms.{behind, nothing}
+use borrow.Author.Needs.{needs}
+use Rattle.sweep_reader.proofs.make.captions.Statement.{statement}
+use Rattle.sweep_reader.proofs.make.captions.Tie as tie
+
+returns : tie.Need-returns
+unfolding captionsMade
+returns c = simp (eq-eqb _ _ (c .if1 .taken)) (nothing _ _)
+
+add-t7 : tie.Need-add-t7
+add-t7 c = search needs
+
+slice-aggregate-put-all : tie.Need-slice-aggregate-put-all
+slice-aggregate-put-all c = search needs
+
+put-all-requires : tie.Need-put-all-requires
+put-all-requires c κs = search needs
+
+mul-caption-bytes : tie.Need-mul-caption-bytes
+mul-caption-bytes c = search needs
+
+caption-bytes-requires : tie.Need-caption-bytes-requires
+caption-bytes-requires c κs = search needs
+
+same-length : tie.Need-same-length
+same-length c = search needs
+
+returns-2 : tie.Need-returns-2
+unfolding captionsMade
+returns-2 c =
+    let s = c .before .before in
+    let t = s .before .before .before .before in
+    simp (ne-eqb _ _ (t .before .before .before .before .if1 .left)) (behind (t .put-all .ensures) (s .caption-bytes .ensures))
+
+pub captions-spec : {M : Type 1} → statement M
+captions-spec =
+    tie.close
+    (tie.spec
+    returns
+    add-t7
+    slice-aggregate-put-all
+    put-all-requires
+    mul-caption-bytes
+    caption-bytes-requires
+    same-length
+    returns-2)

@@ -1,0 +1,30 @@
+-- `reader_sweep::make::finish`: the size is put, and the checksum packetMended.
+-- Assumes nothing.
+use mathlib.Core.Path.{_∙_, ap}
+use Rattle.sweep_reader.specs.Make.{finished}
+use Rattle.sweep_reader.specs.Mend.{packetMended}
+use Rattle.sweep_reader.proofs.Rooms.{put-set}
+use borrow.Author.Needs.{needs}
+use Rattle.sweep_reader.proofs.make.finish.Statement.{statement}
+use Rattle.sweep_reader.proofs.make.finish.Tie as tie
+
+cast-put : tie.Need-cast-put
+cast-put c = search needs
+
+put-requires : tie.Need-put-requires
+put-requires c κs = search needs
+
+mend-requires : tie.Need-mend-requires
+mend-requires c κs = search needs
+
+same-length : tie.Need-same-length
+same-length c = search needs
+
+returns : tie.Need-returns
+unfolding finished
+returns c =
+    let s = c .before .before in
+    s .mend .ensures ∙ ap (packetMended _) (put-set _ _ _ (s .before .before .before .before .put .ensures))
+
+pub finish-spec : {M : Type 1} → statement M
+finish-spec = tie.close (tie.spec cast-put put-requires mend-requires same-length returns)

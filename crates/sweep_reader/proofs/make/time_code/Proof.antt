@@ -1,0 +1,35 @@
+-- `reader_sweep::make::time_code`: five bytes, where the flags say so.
+-- Assumes nothing.
+use borrow.Author.Tests.{eq-eqb, ne-eqb}
+use Rattle.sweep_reader.specs.Make.{timeCodeMade}
+use Rattle.sweep_reader.proofs.Rooms.{nothing}
+use borrow.Author.Needs.{needs}
+use Rattle.sweep_reader.proofs.make.time_code.Statement.{statement}
+use Rattle.sweep_reader.proofs.make.time_code.Tie as tie
+
+returns : tie.Need-returns
+unfolding timeCodeMade
+returns c = simp (eq-eqb _ _ (c .if1 .taken)) (nothing _ _)
+
+add-t6 : tie.Need-add-t6
+add-t6 c = search needs
+
+slice-aggregate-put-all : tie.Need-slice-aggregate-put-all
+slice-aggregate-put-all c = search needs
+
+put-all-requires : tie.Need-put-all-requires
+put-all-requires c κs = search needs
+
+same-length : tie.Need-same-length
+same-length c = search needs
+
+returns-2 : tie.Need-returns-2
+unfolding timeCodeMade
+returns-2 c =
+    let s = c .before .before in
+    simp (ne-eqb _ _ (s .before .before .before .before .if1 .left)) (s .put-all .ensures)
+
+pub time-code-spec : {M : Type 1} → statement M
+time-code-spec =
+    tie.close
+    (tie.spec returns add-t6 slice-aggregate-put-all put-all-requires same-length returns-2)

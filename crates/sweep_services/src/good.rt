@@ -1,0 +1,71 @@
+// Sections that the reader takes, byte by byte, made from their count of entries.
+ghost use mathlib.Core.Path.{_≡_};
+ghost use Prim.Native.Nat.{_≤_};
+ghost use Rattle.sweep_services.specs.Good as Good;
+
+// How many bytes the section of a count has.
+pub fn size(count: u64) -> u64
+    ensures { λ r. ⌜ r ≡ Good.goodSize count ⌝ }
+{
+    2 + 7 * (count % 16)
+}
+
+// What stands at a place; behind the section, zeros.
+pub fn byte(count: u64, place: u64) -> u8
+    ensures { λ r. ⌜ r ≡ Good.goodByte count place ⌝ }
+{
+    if place == 0 {
+        0x73
+    } else if place == 1 {
+        (0x80 + count % 8 * 16 + count % 16) as u8
+    } else if place < size(count) {
+        entry_byte((place - 2) / 7, (place - 2) % 7)
+    } else {
+        0
+    }
+}
+
+// The byte of entry k: its header byte, three of language, and the three that name its service.
+fn entry_byte(k: u64, place: u64) -> u8
+    ensures { λ r. ⌜ r ≡ Good.entryByte k place ⌝ }
+{
+    match place {
+        0 => number(k) + 0x80,
+        1 => (0x61 + k % 16) as u8,
+        2 => (0x71 + k % 16) as u8,
+        3 => (0x81 + k % 16) as u8,
+        4 => kind(k),
+        5 => flags(k),
+        _ => 0xFF,
+    }
+}
+
+// Every fourth entry is a field, 1 and 2 in turn.
+fn kind(k: u64) -> u8
+    ensures { λ r. ⌜ r ≡ Good.kindAt k ⌝ }
+{
+    if k % 4 == 3 {
+        (0x7E + k / 4 % 2) as u8
+    } else {
+        0xC0 + number(k)
+    }
+}
+
+// What the header byte names. The second clause follows from the first; callers' sums fit by it.
+fn number(k: u64) -> u8
+    ensures { λ r. ⌜ r ≡ Good.numberAt k ⌝ }
+    ensures { λ r. ⌜ r ≤ 63 ⌝ }
+{
+    if k % 4 == 3 {
+        0
+    } else {
+        ((k % 16 * 17 + 5) % 63 + 1) as u8
+    }
+}
+
+// All have flags, which a field drops.
+fn flags(k: u64) -> u8
+    ensures { λ r. ⌜ r ≡ Good.flagsAt k ⌝ }
+{
+    (k % 2 * 0x80 + k % 3 % 2 * 0x40 + 0x3F) as u8
+}

@@ -1,0 +1,44 @@
+-- Any sequence of packets and flushes on one reader, and what it shows.
+use mathlib.Core.Bool.{cond}
+use mathlib.Core.List.{List, [], _∷_}
+use Prim.Native.Nat.{ℕ}
+use lib.Dec.{eqb}
+use lib.ListN.{length, take}
+use Rattle.basis.specs.Answer.{done}
+use Rattle.reader.specs.Reader.{bufferAfter, flushedReader, read}
+use Rattle.reader.specs.declared.parser.CDPParser.{CDPParser}
+use Rattle.basis.specs.declared.answer.Answer.{Answer}
+
+-- a callShown on the reader: a packet, with the caption buffer that is lent for it, or a flush
+pub data Call : Type 0 where
+  packet : List ℕ → List ℕ → Call
+  flush : Call
+
+-- what a callShown shows: its answer with the two numbers; rate, time code, sequence and service list; the captions
+pub record Shown : Type 0 where
+  pub answer : Answer
+  pub parser : CDPParser
+  pub captions : List ℕ
+
+-- on acceptance as many first bytes of the caption buffer as the answer's length, else none
+abbrev pub captionsShown : Answer → List ℕ → List ℕ
+captionsShown a buffer = cond (eqb (a .number) 0) (take (a .first) buffer) []
+
+-- a packet read, by the definitions that the contract of CDPParser::parse cites
+abbrev pub packetShown : CDPParser → List ℕ → List ℕ → Shown
+packetShown s p buffer =
+    record {
+      answer = read s p (length buffer) .answer;
+      parser = read s p (length buffer) .parser;
+      captions = captionsShown (read s p (length buffer) .answer) (bufferAfter p buffer);
+    }
+
+-- a flush, by the contract of CDPParser::flush; it has no answer of its own
+abbrev pub callShown : CDPParser → Call → Shown
+callShown s (packet p buffer) = packetShown s p buffer
+callShown s flush = record { answer = done 0; parser = flushedReader s; captions = [] }
+
+-- one callShown after the other, each on the state that the one before it left
+abbrev pub runCalls : CDPParser → List Call → List Shown
+runCalls s [] = []
+runCalls s (c ∷ cs) = callShown s c ∷ runCalls (callShown s c .parser) cs

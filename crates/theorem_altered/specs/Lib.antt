@@ -1,0 +1,5 @@
+pub mod Calls
+pub mod Alteration
+pub mod Mending
+pub mod Twins
+pub mod Examples

@@ -1,0 +1,222 @@
+-- What a refusal's two values are: of every list of checks, that the first broken one is refused as the table has it.
+-- Assumes nothing.
+use mathlib.Core.Bool.{Bool, true, false, cond, not}
+use mathlib.Core.List.{List, [], _∷_, _++_}
+use mathlib.Core.Path.{_≡_, _∙_, refl, sym, ap}
+use Prim.Native.Nat.{ℕ, zero, suc, _+_, _≤_, _<_}
+use native.Mathlib.Omega.{arith}
+use borrow.Author.Tests.{eqb-false, leb-false, leb-true, lt-ltb, ne-eqb}
+use lib.Dec.{eqb}
+use lib.ListN.{drop, length, length-drop}
+use lib.Seq.{length-take-le}
+use Rattle.basis.proofs.Verdicts.{andThen, verdict-append}
+use Rattle.basis.specs.Answer.{InvalidFixedBits, InvalidServiceNumber, Refusal, WouldOverflow, refused}
+use Rattle.basis.specs.Bytes.{byte}
+use Rattle.basis.specs.Check.{Check, Verdict, broken, check, clear, roomCheck, sizeCheck, verdict, when}
+use Rattle.basis.specs.Mask.{allClear, allSet, x3E, x3F, x80}
+use Rattle.values.specs.Layout.{footerId}
+use Rattle.values_time.specs.Time.{timeChecks, timeWriteChecks}
+use Rattle.service_entry.specs.Entry.{entryChecks}
+use Rattle.service_entry.specs.EntryWriting.{entryCheck}
+use Rattle.service_entries.specs.Entries.{checksAt, countOf, entryListChecks, sectionChecks, sectionLength, sixBehind}
+use Rattle.service_list.specs.SectionWriting.{counted, entryWriteChecks, valueChecks}
+use Rattle.read_header.specs.Header.{flagsIn, headerChecks, sequenceIn}
+use Rattle.read_time_code.specs.TimeCode.{timeCodeChecks}
+use Rattle.read_captions.specs.Captions.{captionsChecks, captionsSize}
+use Rattle.read_services.proofs.ServicesReads.{count-at}
+use Rattle.read_services.specs.Services.{servicesPart, servicesChecks, servicesSize}
+use Rattle.read_closing.specs.Closing.{closingChecks, footerChecks, footerFrom, futureChecks, futureLength}
+use Rattle.read_packet.specs.Packet.{captionsAt, closingAt, packetChecks, servicesAt}
+use Rattle.reader.specs.Reader.{captionRoom, readChecks}
+use Rattle.write_checks.specs.Checks as Checks
+use Rattle.writer.specs.Writer.{setChecks}
+use Rattle.theorem_packet.specs.FirstDemand.{differ, refusalInTable, smaller}
+use Rattle.service_entry.specs.declared.entry.ServiceEntry.{ServiceEntry}
+use Rattle.service_list.specs.declared.list.MaybeServiceInfo.{MaybeServiceInfo}
+use Rattle.service_list.specs.declared.list.ServiceInfo.{ServiceInfo}
+use Rattle.values_time.specs.declared.time.MaybeTimeCode.{MaybeTimeCode}
+use Rattle.values_time.specs.declared.time.TimeCode.{TimeCode}
+use Rattle.values.specs.declared.flags.Flags.{Flags}
+use Rattle.values.specs.declared.framerate.Framerate.{Framerate}
+
+-- a verdict that refuses, if it does, as the table has it, with these two values beside 1
+abbrev pub fine : (ℕ → ℕ → Bool) → Verdict → Bool
+fine beside clear = true
+fine beside (broken why) = refusalInTable beside (refused why)
+
+pub record Proper (beside : ℕ → ℕ → Bool) (cs : List Check) : Type 0 where
+  pub is-fine : fine beside (verdict cs) ≡ true
+
+-- The law: each check that is broken, those before it kept, has a refusal that stands in the table.
+first-broken : (beside : ℕ → ℕ → Bool) (kept : Bool) (why : Refusal) (v : Verdict) → (kept ≡ false → refusalInTable beside (refused why) ≡ true)
+    → (kept ≡ true → fine beside v ≡ true) → fine beside (cond kept v (broken why)) ≡ true
+first-broken beside true why v here behind = behind refl
+first-broken beside false why v here behind = here refl
+
+one-by-one : (beside : ℕ → ℕ → Bool) (v w : Verdict) → fine beside v ≡ true → fine beside w ≡ true → fine beside (andThen v w) ≡ true
+one-by-one beside clear w a b = b
+one-by-one beside (broken why) w a b = a
+
+module _ {beside : ℕ → ℕ → Bool} where
+  pub none : Proper beside []
+  none = record { is-fine = refl }
+
+  also : {c : Check} {cs : List Check} → (c .kept ≡ false → refusalInTable beside (refused (c .refusal)) ≡ true) → (c .kept ≡ true → Proper beside cs)
+      → Proper beside (c ∷ cs)
+  also {c} {cs} here behind =
+      record { is-fine = first-broken beside (c .kept) (c .refusal) (verdict cs) here (λ k. behind k .is-fine) }
+
+  -- a check whose refusal has the same two values always
+  fixed : {kept : Bool} {why : Refusal} {cs : List Check} → refusalInTable beside (refused why) ≡ true → Proper beside cs → Proper beside (check kept why ∷ cs)
+  fixed here behind = also (λ _. here) (λ _. behind)
+
+  both : (xs ys : List Check) → Proper beside xs → Proper beside ys → Proper beside (xs ++ ys)
+  both xs ys a b = record { is-fine = rw (verdict-append xs ys) (one-by-one beside (verdict xs) (verdict ys) (a .is-fine) (b .is-fine)) }
+
+  pub where-there : (present : Bool) {cs : List Check} → Proper beside cs → Proper beside (when present cs)
+  where-there true a = a
+  where-there false a = none
+
+  -- a lent buffer is too short with less than is needed
+  pub room : (needed lent : ℕ) {cs : List Check} → Proper beside cs → Proper beside (roomCheck needed lent ∷ cs)
+  room needed lent behind = also (λ k. lt-ltb lent needed (leb-false needed lent k)) (λ _. behind)
+
+-- the same behind all that a writer tests
+pub with-room : {beside : ℕ → ℕ → Bool} {cs : List Check} → Proper beside cs → (needed : ℕ) (buffer : List ℕ) → Proper beside (cs ++ roomCheck needed (length buffer) ∷ [])
+with-room {cs = cs} a needed buffer = both cs _ a (room needed (length buffer) none)
+
+-- what stands beside 1 where less is met than at least so many bytes
+abbrev pub Shorter : (ℕ → ℕ → Bool) → Type 0
+Shorter beside = (expected met : ℕ) → met < expected → beside expected met ≡ true
+
+differs : (expected met : ℕ) → (expected ≡ met → ⊥) → differ expected met ≡ true
+differs expected met h = ap not (ne-eqb expected met h)
+
+shorter-differs : Shorter differ
+shorter-differs expected met h = differs expected met (λ e. omega arith)
+
+pub shorter-smaller : Shorter smaller
+shorter-smaller expected met h = lt-ltb met expected h
+
+-- rules that answer no 1: a time code's four bytes, an entry; and all that a writer tests
+module _ {beside : ℕ → ℕ → Bool} where
+  pub time-proper : (hours minutes seconds frames : ℕ) → Proper beside (timeChecks hours minutes seconds frames)
+  time-proper hours minutes seconds frames = fixed refl (fixed refl (fixed refl none))
+
+  -- E2: both refusals of the kind byte are fixed ones
+  kind : (digital kept kept′ : Bool) {cs : List Check} → Proper beside cs → Proper beside (cond digital (check kept InvalidServiceNumber) (check kept′ InvalidFixedBits) ∷ cs)
+  kind true kept kept′ behind = fixed refl behind
+  kind false kept kept′ behind = fixed refl behind
+
+  pub entry-proper : (e : List ℕ) → Proper beside (entryChecks e)
+  entry-proper e = fixed refl (kind (allSet x80 (byte e 3)) (not (allClear x3F (byte e 3))) (allSet x3E (byte e 3)) (fixed refl (fixed refl none)))
+
+  at-proper : (d : List ℕ) (at : ℕ) → Proper beside (checksAt d at)
+  at-proper d at = fixed refl (fixed refl (both (entryChecks (sixBehind d at)) _ (entry-proper (sixBehind d at)) (fixed refl none)))
+
+  entries-proper : (d : List ℕ) (at n : ℕ) → Proper beside (entryListChecks d at n)
+  entries-proper d at zero = none
+  entries-proper d at (suc n) = both (checksAt d at) (entryListChecks d (at + 7) n) (at-proper d at) (entries-proper d (at + 7) n)
+
+  pub time-write-proper : (t : TimeCode) → Proper beside (timeWriteChecks t)
+  time-write-proper t = fixed refl (fixed refl (fixed refl (fixed refl none)))
+
+  pub entry-write-proper : (e : ServiceEntry) → Proper beside (entryCheck e ∷ [])
+  entry-write-proper e = fixed refl none
+
+  entry-writes-proper : (es : List ServiceEntry) → Proper beside (entryWriteChecks es)
+  entry-writes-proper [] = none
+  entry-writes-proper (e ∷ es) = fixed refl (entry-writes-proper es)
+
+  pub value-proper : (l : ServiceInfo) → Proper beside (valueChecks l)
+  value-proper l = fixed refl (entry-writes-proper (counted l))
+
+  pub overflow-proper : (kept : Bool) → Proper beside (check kept WouldOverflow ∷ [])
+  overflow-proper kept = fixed refl none
+
+  pub set-proper : (services : MaybeServiceInfo) → Proper beside (setChecks services)
+  set-proper services = where-there (services .present) (fixed refl none)
+
+  pub packet-write-proper : (rate : Framerate) (time : MaybeTimeCode) (services : MaybeServiceInfo) (run : ℕ) → Proper beside (Checks.packetWriteChecks rate time services run)
+  packet-write-proper rate time services run =
+      fixed refl
+      (fixed refl
+      (both (Checks.timeCodeWriteChecks time) (Checks.servicesWriteChecks services)
+      (where-there (time .present) (time-write-proper (time .«time_code»))) (where-there (services .present) (value-proper (services .«service_info»)))))
+
+-- rules that answer 1 where bytes are missing: the parts of a packet behind its header
+module _ {beside : ℕ → ℕ → Bool} (shorter : Shorter beside) where
+  size : (p : List ℕ) (least : ℕ) {cs : List Check} → (least ≤ length p → Proper beside cs) → Proper beside (sizeCheck p least ∷ cs)
+  size p least behind = also (λ k. shorter least (length p) (leb-false least (length p) k)) (λ k. behind (leb-true least (length p) k))
+
+  pub time-code-proper : (p : List ℕ) (i : ℕ) → Proper beside (timeCodeChecks p i)
+  time-code-proper p i = size p (i + 5) (λ _. fixed refl (time-proper (byte p (i + 1)) (byte p (i + 2)) (byte p (i + 3)) (byte p (i + 4))))
+
+  pub captions-proper : (p : List ℕ) (i : ℕ) → Proper beside (captionsChecks p i)
+  captions-proper p i = size p (i + 2) (λ _. fixed refl (fixed refl (size p (i + captionsSize p i) (λ _. none))))
+
+  -- a section, if its size is refused as the table has it
+  section : (d : List ℕ) → ((sectionLength (countOf d) ≡ length d → ⊥) → beside (sectionLength (countOf d)) (length d) ≡ true) → Proper beside (sectionChecks d)
+  unfolding sectionChecks
+  section d other =
+      size d 2
+      (λ _. fixed refl
+      (fixed refl
+      (also (λ k. other (λ e. eqb-false _ _ k (sym e))) (λ _. entries-proper d 2 (countOf d)))))
+
+  -- in a packet its bytes are as many as it says, so that S4 refuses none
+  as-long : (p : List ℕ) (i : ℕ) → i + servicesSize p i ≤ length p → sectionLength (countOf (servicesPart p i)) ≡ length (servicesPart p i)
+  as-long p i fits =
+      let long : length (servicesPart p i) ≡ servicesSize p i = length-take-le (servicesSize p i) (drop i p) (omega (arith, length-drop i p)) in
+      ap sectionLength (count-at p i) ∙ sym long
+
+  pub services-proper : (p : List ℕ) (f : Flags) (i : ℕ) → Proper beside (servicesChecks p f i)
+  services-proper p f i =
+      size p (i + 2)
+      (λ _. fixed refl
+      (size p (i + servicesSize p i)
+      (λ fits. both (sectionChecks (servicesPart p i)) _ (section (servicesPart p i) (λ other. absurd (other (as-long p i fits)))) (fixed refl none))))
+
+  unless-found : (found : Bool) {cs : List Check} → Proper beside cs → Proper beside (cond found [] cs)
+  unless-found true a = none
+  unless-found false a = a
+
+  future-proper : (turns : ℕ) (p : List ℕ) (i : ℕ) → Proper beside (futureChecks turns p i)
+  future-proper zero p i = none
+  future-proper (suc turns) p i =
+      unless-found (eqb (byte p i) footerId)
+      (fixed refl (size p (i + 1 + futureLength p i) (λ _. size p (i + 2 + futureLength p i + 2) (λ _. future-proper turns p (i + 2 + futureLength p i)))))
+
+  pub closing-proper : (p : List ℕ) (sequence i : ℕ) → Proper beside (closingChecks p sequence i)
+  unfolding closingChecks
+  closing-proper p sequence i =
+      let at : ℕ = footerFrom (length p) p i in
+      size p (i + 2)
+      (λ _. both (futureChecks (length p) p i) (footerChecks p sequence at) (future-proper (length p) p i)
+      (size p (at + 4) (λ _. fixed refl (fixed refl none))))
+
+-- rules that answer 1 where a size is another than what is said: a section alone, the header, and so a packet
+pub section-proper : (d : List ℕ) → Proper differ (sectionChecks d)
+section-proper d = section shorter-differs d (differs (sectionLength (countOf d)) (length d))
+
+pub header-proper : (p : List ℕ) → Proper differ (headerChecks p)
+header-proper p =
+    size shorter-differs p 11
+    (λ _. fixed refl
+    (also (λ k. differs (byte p 2) (length p) (eqb-false (byte p 2) (length p) k)) (λ _. fixed refl none)))
+
+pub packet-proper : (p : List ℕ) → Proper differ (packetChecks p)
+unfolding packetChecks
+packet-proper p =
+    let f : Flags = flagsIn p in
+    let time : List Check = when (f .«time_code») (timeCodeChecks p 7) in
+    let captions : List Check = when (f .«cc_data») (captionsChecks p (captionsAt p)) in
+    let services : List Check = when (f .«svc_info») (servicesChecks p f (servicesAt p)) in
+    let closing : List Check = closingChecks p (sequenceIn p) (closingAt p) in
+    both (headerChecks p) (time ++ (captions ++ (services ++ closing))) (header-proper p)
+    (both time (captions ++ (services ++ closing)) (where-there (f .«time_code») (time-code-proper shorter-differs p 7))
+    (both captions (services ++ closing) (where-there (f .«cc_data») (captions-proper shorter-differs p (captionsAt p)))
+    (both services closing (where-there (f .«svc_info») (services-proper shorter-differs p f (servicesAt p))) (closing-proper shorter-differs p (sequenceIn p) (closingAt p)))))
+
+pub read-proper : (p : List ℕ) (lent : ℕ) → Proper differ (readChecks p lent)
+read-proper p lent = room captionRoom lent (packet-proper p)

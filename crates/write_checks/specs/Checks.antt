@@ -1,0 +1,43 @@
+-- Whether a packet can be written: its checks in their order, and its length.
+use mathlib.Core.Bool.{Bool, _&&_}
+use mathlib.Core.List.{List, _∷_, _++_}
+use Prim.Native.Nat.{ℕ, _+_, _%_}
+use lib.Dec.{eqb, leb}
+use Rattle.basis.specs.Answer.{UnknownFramerate, WrongCaptionRun}
+use Rattle.basis.specs.Check.{Check, check, when, sizeWhen}
+use Rattle.values.specs.Rate.{known}
+use Rattle.values_time.specs.Time.{timeSize, timeWriteChecks}
+use Rattle.service_entries.specs.Entries.{sectionLength}
+use Rattle.service_list.specs.SectionWriting.{valueChecks}
+use Rattle.service_list.specs.declared.list.MaybeServiceInfo.{MaybeServiceInfo}
+use Rattle.values.specs.declared.framerate.Framerate.{Framerate}
+use Rattle.values_time.specs.declared.time.MaybeTimeCode.{MaybeTimeCode}
+
+-- a caption run has at most 93 bytes, three for each triplet
+abbrev pub fullTriplets : ℕ → Bool
+fullTriplets run = leb run 93 && eqb (run % 3) 0
+
+-- what is not held is unread
+abbrev pub timeCodeWriteChecks : MaybeTimeCode → List Check
+timeCodeWriteChecks time = when (time .present) (timeWriteChecks (time .«time_code»))
+
+abbrev pub servicesWriteChecks : MaybeServiceInfo → List Check
+servicesWriteChecks services = when (services .present) (valueChecks (services .«service_info»))
+
+-- rate, caption run, time code, then count and entries of the list: whether a packet can be written at all
+abbrev pub packetWriteChecks : Framerate → MaybeTimeCode → MaybeServiceInfo → ℕ → List Check
+packetWriteChecks rate time services run =
+    check (known rate) UnknownFramerate
+    ∷ check (fullTriplets run) WrongCaptionRun
+    ∷ timeCodeWriteChecks time
+    ++ servicesWriteChecks services
+
+-- the sizes of the parts: header, time code, captions, services, footer
+abbrev pub timeCodeLength : MaybeTimeCode → ℕ
+timeCodeLength time = sizeWhen (time .present) timeSize
+
+abbrev pub servicesLength : MaybeServiceInfo → ℕ
+servicesLength services = sizeWhen (services .present) (sectionLength (services .«service_info» .count))
+
+abbrev pub packetLength : MaybeTimeCode → MaybeServiceInfo → ℕ → ℕ
+packetLength time services run = 7 + timeCodeLength time + (2 + run) + servicesLength services + 4
