@@ -3,7 +3,7 @@ use mathlib.Core.List.{List, _++_}
 use Prim.Native.Nat.{ℕ, _+_}
 use lib.ListN.{length}
 use Rattle.basis.specs.Check.{Check, when, sizeWhen}
-use Rattle.values_time.specs.Time.{timeSize}
+use Rattle.values.specs.Layout.{timeCodeSize}
 use Rattle.read_captions.specs.Captions.{captionsChecks, captionsSize}
 use Rattle.read_closing.specs.Closing.{closingChecks, footerFrom}
 use Rattle.read_header.specs.Header.{headerChecks, flagsIn, sequenceIn}
@@ -15,7 +15,7 @@ abbrev pub timeCodeAt : ℕ
 timeCodeAt = 7
 
 abbrev pub captionsAt : List ℕ → ℕ
-captionsAt p = timeCodeAt + sizeWhen (flagsIn p .«time_code») timeSize
+captionsAt p = timeCodeAt + sizeWhen (flagsIn p .«time_code») timeCodeSize
 
 -- how many bytes are handed out, 0 without a caption section
 abbrev pub captionsLength : List ℕ → ℕ

@@ -14,7 +14,7 @@ use Rattle.basis.specs.Answer.{LengthMismatch, ServiceFlagsMismatched, WrongMag
 use Rattle.basis.specs.Bytes.{byte, part}
 use Rattle.basis.specs.Check.{Check, Verdict, check, clear, sizeCheck, verdict}
 use Rattle.basis.specs.Code.{alone, sized, tested}
-use Rattle.values.specs.Layout.{servicesId}
+use Rattle.values.specs.Layout.{servicesId, sectionLength}
 use Rattle.basis.specs.Mask.{under, x0F}
 use Rattle.service_entries.specs.Entries.{countOf, sectionChecks}
 use Rattle.service_entries.specs.Code.{sectionAnswer}
@@ -59,7 +59,7 @@ count-at p i = ap (under x0F) (byte-one p i)
 module _ (p : List ℕ) (f : Flags) (i : ℕ) where
   -- the section's size, as the code has it
   abbrev pub size : ℕ
-  size = 2 + 7 * (byte p (i + 1) % 16)
+  size = sectionLength (byte p (i + 1) % 16)
 
   as-count : byte p (i + 1) / 1 % 16 ≡ byte p (i + 1) % 16
   as-count = omega arith

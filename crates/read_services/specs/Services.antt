@@ -7,8 +7,8 @@ use Rattle.basis.specs.Answer.{WrongMagic, ServiceFlagsMismatched}
 use Rattle.basis.specs.Bytes.{byte, part}
 use Rattle.basis.specs.Check.{Check, check, sizeCheck}
 use Rattle.basis.specs.Mask.{under, x0F}
-use Rattle.values.specs.Layout.{servicesId}
-use Rattle.service_entries.specs.Entries.{sectionChecks, sectionLength}
+use Rattle.values.specs.Layout.{servicesId, sectionLength}
+use Rattle.service_entries.specs.Entries.{sectionChecks}
 use Rattle.service_list.specs.Section.{listOf}
 use Rattle.service_list.specs.ServiceList.{listPresent, listAbsent}
 use Rattle.service_list.specs.declared.list.MaybeServiceInfo.{MaybeServiceInfo}

@@ -11,11 +11,12 @@ use Rattle.basis.proofs.Verdicts.{done-clear, done-value}
 use Rattle.basis.specs.Answer.{LengthMismatch, WrongMagic, done, refused}
 use Rattle.basis.specs.Bytes.{byte}
 use Rattle.basis.specs.Check.{Verdict, answer, broken, clear, ifClear, verdict}
-use Rattle.values_time.specs.Time.{noTime, timeAbsent, timeChecks, timePresent, timeRead, timeSize}
+use Rattle.values_time.specs.Time.{noTime, timeAbsent, timeChecks, timePresent, timeRead}
 use Rattle.read_time_code.specs.TimeCode.{timeCodeIn}
 use Rattle.read_time_code.specs.Code.{noTimeCode, timeCodeRead}
 use Rattle.read_time_code.specs.declared.time_code.TimeCodeSection.{TimeCodeSection}
 use Rattle.basis.specs.declared.answer.Answer.{Answer}
+use Rattle.values.specs.Layout.{timeCodeSize}
 use Rattle.values_time.specs.declared.time.MaybeTimeCode.{MaybeTimeCode}
 use Rattle.values_time.specs.declared.time.TimeCode.{TimeCode}
 use Rattle.values_time.specs.declared.time.TimeCodeRead.{TimeCodeRead}
@@ -25,7 +26,7 @@ section a t size = record { answer = a; «time_code» = t; size = size }
 
 -- what a verdict on the four bytes gives
 abbrev shown : Verdict → TimeCode → TimeCodeSection
-shown v t = section (answer v 0) (ifClear v (timePresent t) timeAbsent) (ifClear v timeSize 0)
+shown v t = section (answer v 0) (ifClear v (timePresent t) timeAbsent) (ifClear v timeCodeSize 0)
 
 refused-so : (v : Verdict) (t : TimeCode) → eqb (answer v 0 .number) 0 ≡ false → noTimeCode (answer v 0) ≡ shown v t
 refused-so clear t h = absurd (true≢false h)
@@ -63,9 +64,9 @@ module _ (p : List ℕ) (i : ℕ) where
         bytes-wrong h = refused-so fourVerdict (timeCodeIn p i) h ∙ as-section
 
         pub time-code-whole : eqb (fourRead .answer .number) 0 ≡ true
-            → section (done 0) (timePresent (fourRead .«time_code»)) timeSize ≡ timeCodeRead p present i
+            → section (done 0) (timePresent (fourRead .«time_code»)) timeCodeSize ≡ timeCodeRead p present i
         unfolding timeRead
         time-code-whole h =
-            ap (λ t. section (done 0) (timePresent t) timeSize) (done-value fourVerdict 0 (timeCodeIn p i) noTime h)
+            ap (λ t. section (done 0) (timePresent t) timeCodeSize) (done-value fourVerdict 0 (timeCodeIn p i) noTime h)
             ∙ ap (λ (v : Verdict). shown v (timeCodeIn p i)) (sym (done-clear fourVerdict 0 h))
             ∙ as-section

@@ -3,9 +3,10 @@ use mathlib.Core.Bool.{Bool}
 use mathlib.Core.List.{List, [], _∷_}
 use Prim.Native.Nat.{ℕ}
 use Rattle.basis.specs.Check.{when, sizeWhen, verdict, answer, ifClear}
-use Rattle.values_time.specs.Time.{timeAbsent, timeSize}
+use Rattle.values_time.specs.Time.{timeAbsent}
 use Rattle.read_time_code.specs.declared.time_code.TimeCodeSection.{TimeCodeSection}
 use Rattle.basis.specs.declared.answer.Answer.{Answer}
+use Rattle.values.specs.Layout.{timeCodeSize}
 use Rattle.read_time_code.specs.TimeCode.{ofFour, timeCodeChecks, timeCodeOf}
 
 abbrev pub fourBehind : List ℕ → ℕ → List ℕ
@@ -18,7 +19,7 @@ timeCodeRead p present i =
     record {
       answer = answer v 0;
       «time_code» = ifClear v (timeCodeOf p present i) timeAbsent;
-      size = ifClear v (sizeWhen present timeSize) 0;
+      size = ifClear v (sizeWhen present timeCodeSize) 0;
     }
 
 -- a refusal shows no time code, nor does a packet without the section

@@ -6,8 +6,8 @@ use lib.Dec.{eqb}
 use Rattle.basis.specs.Answer.{WrongMagic}
 use Rattle.basis.specs.Bytes.{byte}
 use Rattle.basis.specs.Check.{Check, check, sizeCheck}
-use Rattle.values.specs.Layout.{timeCodeId}
-use Rattle.values_time.specs.Time.{timeChecks, timeOf, timePresent, timeAbsent, timeSize}
+use Rattle.values.specs.Layout.{timeCodeId, timeCodeSize}
+use Rattle.values_time.specs.Time.{timeChecks, timeOf, timePresent, timeAbsent}
 use Rattle.values_time.specs.declared.time.MaybeTimeCode.{MaybeTimeCode}
 use Rattle.values_time.specs.declared.time.TimeCode.{TimeCode}
 
@@ -18,7 +18,7 @@ ofFour f p i = f (byte p (i + 1)) (byte p (i + 2)) (byte p (i + 3)) (byte p (i +
 -- n is at least i+5; byte i is 71; then the fixed bits of the four bytes behind it
 abbrev pub timeCodeChecks : List ℕ → ℕ → List Check
 timeCodeChecks p i =
-    sizeCheck p (i + timeSize)
+    sizeCheck p (i + timeCodeSize)
     ∷ check (eqb (byte p i) timeCodeId) WrongMagic
     ∷ ofFour timeChecks p i
 

@@ -10,6 +10,7 @@ use lib.Seq.{length-take-le}
 use Rattle.basis.proofs.Puts.{over-nil, put-put}
 use Rattle.basis.specs.Bytes.{byte, over, part}
 use Rattle.basis.specs.Code.{put}
+use Rattle.values.specs.Layout.{captionRoom}
 use Rattle.read_captions.specs.Captions.{handedOut}
 
 module _ (p : List ℕ) (i : ℕ) (buffer : List ℕ) (present : Bool) where
@@ -30,7 +31,7 @@ module _ (p : List ℕ) (i : ℕ) (buffer : List ℕ) (present : Bool) where
   abbrev tail : List ℕ
   tail = part (i + 2) (i + (2 + 3 * count) - (i + 2)) p
 
-  module _ (there : present ≡ true) (fits : i + (2 + 3 * count) ≤ length p) (room : 95 ≤ length buffer) where
+  module _ (there : present ≡ true) (fits : i + (2 + 3 * count) ≤ length p) (room : captionRoom ≤ length buffer) where
     as-count : byte p (i + 1) / 1 % 32 ≡ count
     as-count = omega arith
 

@@ -24,6 +24,7 @@ use Rattle.reader.specs.Reader.{bufferAfter, captionsOf, cleared, read}
 use Rattle.reader.specs.declared.parser.CDPParser.{CDPParser}
 use Rattle.reader.specs.declared.parser.CDPParserRead.{CDPParserRead}
 use Rattle.basis.specs.declared.answer.Answer.{Answer}
+use Rattle.values.specs.Layout.{captionRoom}
 
 abbrev result : Answer → CDPParser → CDPParserRead
 result a s = record { answer = a; parser = s }
@@ -42,11 +43,11 @@ captions-long p h = out-long p (captionsAt p) (flagsIn p .«cc_data») (has-capt
 
 -- the answer and the state
 module _ (s : CDPParser) (p : List ℕ) (room : ℕ) where
-  pub no-room : room < 95 → result (refused (BufferTooShort 95 room)) s ≡ read s p room
+  pub no-room : room < captionRoom → result (refused (BufferTooShort captionRoom room)) s ≡ read s p room
   unfolding read
   no-room a = simp (lt-leb _ _ a)
 
-  module _ (enough : 95 ≤ room) where
+  module _ (enough : captionRoom ≤ room) where
     -- the packet's own checks are left
     as-packet : result (answer (verdict (packetChecks p)) (captionsLength p)) (ifClear (verdict (packetChecks p)) (shownBy p) (cleared s)) ≡ read s p room
     unfolding read
@@ -68,11 +69,11 @@ module _ (s : CDPParser) (p : List ℕ) (room : ℕ) where
 
 -- the buffer
 module _ (p : List ℕ) (buffer : List ℕ) where
-  pub no-room-buffer : length buffer < 95 → buffer ≡ bufferAfter p buffer
+  pub no-room-buffer : length buffer < captionRoom → buffer ≡ bufferAfter p buffer
   unfolding bufferAfter
   no-room-buffer a = simp (lt-leb _ _ a)
 
-  module _ (enough : 95 ≤ length buffer) where
+  module _ (enough : captionRoom ≤ length buffer) where
     buffer-as-packet : ifClear (verdict (packetChecks p)) (over 0 (captionsOf p) buffer) buffer ≡ bufferAfter p buffer
     unfolding bufferAfter
     buffer-as-packet = simp (le-leb _ _ enough)

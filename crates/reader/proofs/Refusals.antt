@@ -15,6 +15,7 @@ use Rattle.basis.specs.Answer.{BufferTooShort}
 use Rattle.basis.specs.Bytes.{byte, over}
 use Rattle.basis.specs.Check.{Verdict, answer, broken, clear, ifClear, roomCheck, verdict}
 use Rattle.values.specs.Rate.{noRate}
+use Rattle.values.specs.Layout.{captionRoom}
 use Rattle.values_time.specs.Time.{timeAbsent}
 use Rattle.read_closing.proofs.FooterFound.{checksum-kept}
 use Rattle.read_closing.specs.Closing.{checksumOf}
@@ -24,7 +25,7 @@ use Rattle.read_packet.proofs.PacketReads.{closing-of-packet, size-of-packet}
 use Rattle.reader.proofs.ReaderReads.{captions-long}
 use Rattle.read_packet.specs.Packet.{captionsLength, closingAt, footerAt, packetChecks}
 use Rattle.reader.specs.Shown.{shownBy}
-use Rattle.reader.specs.Reader.{bufferAfter, captionRoom, captionsOf, cleared, read, readChecks}
+use Rattle.reader.specs.Reader.{bufferAfter, captionsOf, cleared, read, readChecks}
 use Rattle.reader.specs.declared.parser.CDPParser.{CDPParser}
 use Rattle.reader.specs.declared.parser.CDPParserRead.{CDPParserRead}
 
@@ -117,7 +118,7 @@ module _ (s : CDPParser) (p buffer : List ℕ) where
     no-list-from-bad-checksum = list-only-from-accepted bad-checksum-refused
 
   -- answer and state do not depend on what is in the buffer, nor on its length from 95 on
-  pub same-with-any-buffer : (other : List ℕ) → 95 ≤ length buffer → 95 ≤ length other → given ≡ read s p (length other)
+  pub same-with-any-buffer : (other : List ℕ) → captionRoom ≤ length buffer → captionRoom ≤ length other → given ≡ read s p (length other)
   unfolding read
   same-with-any-buffer other a b = simp (le-leb _ _ a, le-leb _ _ b)
 

@@ -5,8 +5,8 @@ ghost use mathlib.Core.Path.{_≡_};
 ghost use Prim.Native.Nat.{_+_, _≤_};
 ghost use lib.ListN.{length};
 ghost use Rattle.basis.specs.Bytes.{over};
+ghost use Rattle.values.specs.Layout.{captionRoom};
 ghost use Rattle.read_captions.specs.Captions.{captionsSize, handedOut};
-ghost use Rattle.reader.specs.Reader.{captionRoom};
 use basis::put;
 
 // Puts C0 + c, FF and the caption bytes of the section at a place at the start of the lent buffer; without a section,

@@ -16,9 +16,9 @@ use Rattle.basis.specs.Answer.{LengthMismatch, WrongMagic, InvalidFixedBits, Se
 use Rattle.basis.specs.Bytes.{byte}
 use Rattle.basis.specs.Check.{Check, Verdict, check, clear, sizeCheck, verdict, answer, ifClear}
 use Rattle.basis.specs.Mask.{allSet, x80, x40, x20}
-use Rattle.values.specs.Layout.{servicesId}
+use Rattle.values.specs.Layout.{servicesId, sectionLength}
 use Rattle.service_entry.specs.Entry.{entryChecks, entryOf, entryRead}
-use Rattle.service_entries.specs.Entries.{checksAt, countOf, entriesOf, entryListChecks, filled, fillers, namedBy, sectionChecks, sectionLength, sixBehind}
+use Rattle.service_entries.specs.Entries.{checksAt, countOf, entriesOf, entryListChecks, filled, fillers, namedBy, sectionChecks, sixBehind}
 use Rattle.service_entries.specs.Code.{entriesRead, refusedEntries, sectionAnswer, Framed, answerAt}
 use Rattle.service_entry.specs.Service.{filler, numberOf}
 use Rattle.service_entry.specs.declared.entry.ServiceEntry.{ServiceEntry}
@@ -108,7 +108,7 @@ unfoldable pub firstRead : List ℕ → ℕ → ℕ → List ServiceEntry
 firstRead d from k = filled (entriesOf d from k)
 
 unfoldable pub left : List ℕ → ℕ → ℕ → Verdict
-left d k count = verdict (entryListChecks d (2 + 7 * k) (count - k))
+left d k count = verdict (entryListChecks d (sectionLength k) (count - k))
 
 -- one entry more at the end
 entries-more : (d : List ℕ) (at n : ℕ) → entriesOf d at (suc n) ≡ entriesOf d at n ++ entryOf (sixBehind d (at + 7 * n)) ∷ []
@@ -162,13 +162,13 @@ module _ (d : List ℕ) (k count : ℕ) where
   left-first = rw (sub-zero count)
 
   -- what is left at k is the entry at k and what is left behind it
-  left-step : k < count → left d k count ≡ andThen (verdict (checksAt d (2 + 7 * k))) (left d (k + 1) count)
+  left-step : k < count → left d k count ≡ andThen (verdict (checksAt d (sectionLength k))) (left d (k + 1) count)
   unfolding left
   left-step h =
-      let at : ℕ = 2 + 7 * k in
+      let at : ℕ = sectionLength k in
       let rest : ℕ = count - (k + 1) in
       let before : count - k ≡ suc rest = omega arith in
-      let after : at + 7 ≡ 2 + 7 * (k + 1) = omega arith in
+      let after : at + 7 ≡ sectionLength (k + 1) = omega arith in
       ap (λ (n : ℕ). verdict (entryListChecks d at n)) before
       ∙ verdict-append (checksAt d at) (entryListChecks d (at + 7) rest)
       ∙ ap (λ (n : ℕ). andThen (verdict (checksAt d at)) (verdict (entryListChecks d n rest))) after
@@ -179,9 +179,9 @@ module _ (d : List ℕ) (k count : ℕ) where
       let none : count - k ≡ 0 = omega arith in
       rw none
 
-  pub left-goes-on : k < count → eqb (answerAt d (2 + 7 * k) .number) 0 ≡ true → left d k count ≡ left d (k + 1) count
+  pub left-goes-on : k < count → eqb (answerAt d (sectionLength k) .number) 0 ≡ true → left d k count ≡ left d (k + 1) count
   unfolding answerAt
-  left-goes-on h r = left-step h ∙ ap (λ (v : Verdict). andThen v (left d (k + 1) count)) (done-clear (verdict (checksAt d (2 + 7 * k))) 0 r)
+  left-goes-on h r = left-step h ∙ ap (λ (v : Verdict). andThen v (left d (k + 1) count)) (done-clear (verdict (checksAt d (sectionLength k))) 0 r)
 
 -- S1 to S4, where one of them is the first that fails
 module _ (d : List ℕ) where
@@ -217,11 +217,11 @@ module _ (d : List ℕ) (header : ℕ) (framed : Framed d header) where
       simp (le-leb _ _ two, eq-eqb _ _ (framed .id), eq-eqb _ _ fixed, count-is, eq-eqb _ _ (framed .size)) (left-first d 0 (header % 16))
 
   pub section-refused : (k : ℕ) → k < header % 16 → left d 0 (header % 16) ≡ left d k (header % 16)
-      → eqb (answerAt d (2 + 7 * k) .number) 0 ≡ false → answerAt d (2 + 7 * k) ≡ sectionAnswer d
+      → eqb (answerAt d (sectionLength k) .number) 0 ≡ false → answerAt d (sectionLength k) ≡ sectionAnswer d
   unfolding sectionAnswer answerAt
   section-refused k h so-far r =
       ap (λ (v : Verdict). answer v 0)
-      (sym (refused-stays (verdict (checksAt d (2 + 7 * k))) (left d (k + 1) (header % 16)) 0 r)
+      (sym (refused-stays (verdict (checksAt d (sectionLength k))) (left d (k + 1) (header % 16)) 0 r)
       ∙ sym (frame-kept ∙ so-far ∙ left-step d k (header % 16) h))
 
   pub section-whole : (k : ℕ) → k ≡ header % 16 → left d 0 (header % 16) ≡ left d k (header % 16) → done 0 ≡ sectionAnswer d
@@ -285,7 +285,7 @@ module _ (d : List ℕ) (right : verdict (sectionChecks d) ≡ clear) where
   unfolding sectionChecks
   from-size = kept-rest bitCheck (lengthCheck ∷ own) (kept-rest idCheck (bitCheck ∷ lengthCheck ∷ own) (kept-rest (sizeCheck d 2) (idCheck ∷ bitCheck ∷ lengthCheck ∷ own) right))
 
-  pub section-long : length d ≡ 2 + 7 * (byte d 1 % 16)
+  pub section-long : length d ≡ sectionLength (byte d 1 % 16)
   section-long =
       let said : length d ≡ sectionLength (countOf d) = eqb-true _ _ (kept-first lengthCheck own from-size) in
       omega (arith, said)

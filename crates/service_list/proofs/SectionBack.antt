@@ -16,7 +16,7 @@ use Rattle.basis.specs.Answer.{ServiceNumberMismatch, done, refused}
 use Rattle.basis.specs.Bytes.{byte}
 use Rattle.basis.specs.Check.{Check, Verdict, check, verdict, clear, broken}
 use Rattle.basis.specs.Mask.{flag, under, allSet, x80, x40, x20, x10, x3F, x0F}
-use Rattle.values.specs.Layout.{servicesId}
+use Rattle.values.specs.Layout.{servicesId, sectionLength}
 use Rattle.service_entry.specs.Entry.{entryChecks, entryOf}
 use Rattle.service_list.specs.SectionBack.{isFieldTwo, namesFieldTwo, allOfThree, Ready}
 use Rattle.service_entries.specs.Entries.{sixBehind, checksAt, entryListChecks, entriesOf, filled, frameChecks, sectionChecks, countOf}
@@ -166,7 +166,7 @@ frame-clear header rest h80 size =
     simp (
       le-leb 2 (length (servicesId ∷ header ∷ rest)) (omega arith),
       h80,
-      eq-eqb (length (servicesId ∷ header ∷ rest)) (2 + 7 * under x0F header) (omega arith),
+      eq-eqb (length (servicesId ∷ header ∷ rest)) (sectionLength (under x0F header)) (omega arith),
     )
 
 -- a list that can be written, read from its section: byte 1, the verdict, and what is held

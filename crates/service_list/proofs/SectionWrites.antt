@@ -16,9 +16,8 @@ use Rattle.basis.specs.Answer.{WouldOverflow, BufferTooShort, NotWritable, done
 use Rattle.basis.specs.Bytes.{over}
 use Rattle.basis.specs.Code.{put}
 use Rattle.basis.specs.Check.{Verdict, clear, broken, verdict, answer}
-use Rattle.values.specs.Layout.{servicesId}
+use Rattle.values.specs.Layout.{servicesId, sectionLength}
 use Rattle.service_entry.specs.Service.{filler}
-use Rattle.service_entries.specs.Entries.{sectionLength}
 use Rattle.service_list.specs.ServiceList.{byteLen}
 use Rattle.service_entry.proofs.EntryBack.{seven-of}
 use Rattle.service_entry.specs.Code.{sevenOf}
@@ -74,17 +73,17 @@ module _ (k : ℕ) (services : List ServiceEntry) (buffer : List ℕ) where
   unfolding entriesPut
   put-none = sym (over-nil 2 buffer)
 
-  pub put-more : (d : ServiceEntry) → k < length services → 2 + 7 * k + 7 ≤ length buffer → writable (getD services k d .service) ≡ true
-      → put (2 + 7 * k) (sevenOf (getD services k d)) (entriesPut k services buffer) ≡ entriesPut (k + 1) services buffer
+  pub put-more : (d : ServiceEntry) → k < length services → sectionLength k + 7 ≤ length buffer → writable (getD services k d .service) ≡ true
+      → put (sectionLength k) (sevenOf (getD services k d)) (entriesPut k services buffer) ≡ entriesPut (k + 1) services buffer
   unfolding entriesPut
   put-more d h fits can =
       let bytes : List ℕ = entryListBytes (placesFrom services 0 k) in
       let e : ServiceEntry = getD services k filler in
       let long : 7 * k ≡ length bytes = sym (first-length services k) in
-      let room : 2 + 7 * k + 7 ≤ length (over 2 bytes buffer) = rw (length-over 2 bytes buffer (omega arith)) fits in
-      ap (λ (b : List ℕ). put (2 + 7 * k) b (over 2 bytes buffer)) (seven-of (getD services k d) can)
+      let room : sectionLength k + 7 ≤ length (over 2 bytes buffer) = rw (length-over 2 bytes buffer (omega arith)) fits in
+      ap (λ (b : List ℕ). put (sectionLength k) b (over 2 bytes buffer)) (seven-of (getD services k d) can)
       ∙ rw (same-place services k d filler h)
-      (put-fits (2 + 7 * k) (sevenBytes e) (over 2 bytes buffer) room
+      (put-fits (sectionLength k) (sevenBytes e) (over 2 bytes buffer) room
       ∙ ap (λ (n : ℕ). over (2 + n) (sevenBytes e) (over 2 bytes buffer)) long
       ∙ over-over 2 bytes (sevenBytes e) buffer (omega arith)
       ∙ ap (λ (b : List ℕ). over 2 b buffer)

@@ -4,10 +4,9 @@ use Prim.Native.Nat.{ℕ, zero, suc, _+_}
 use lib.ListN.{getD, length}
 use Rattle.basis.specs.Check.{Check, roomCheck, verdict}
 use Rattle.basis.specs.Mask.{flag}
-use Rattle.values.specs.Layout.{servicesId}
+use Rattle.values.specs.Layout.{servicesId, sectionLength}
 use Rattle.service_entry.specs.Service.{filler}
 use Rattle.service_entry.specs.EntryWriting.{Written, written, entryCheck, sevenBytes}
-use Rattle.service_entries.specs.Entries.{sectionLength}
 use Rattle.service_list.specs.ServiceList.{countCheck}
 use Rattle.service_list.specs.declared.list.ServiceInfo.{ServiceInfo}
 use Rattle.service_entry.specs.declared.entry.ServiceEntry.{ServiceEntry}

@@ -6,12 +6,13 @@ use lib.Dec.{leb, ltb}
 use lib.ListN.{set}
 use Rattle.basis.specs.Answer.{WouldOverflow}
 use Rattle.basis.specs.Check.{Check, check, verdict, answer, ifClear}
-use Rattle.service_entries.specs.Entries.{places, fillers, sectionLength}
+use Rattle.service_entries.specs.Entries.{places, fillers}
 use Rattle.service_entry.specs.declared.entry.ServiceEntry.{ServiceEntry}
 use Rattle.service_list.specs.declared.list.MaybeServiceInfo.{MaybeServiceInfo}
 use Rattle.service_list.specs.declared.list.ServiceInfo.{ServiceInfo}
 use Rattle.service_list.specs.declared.list.ServiceInfoAdded.{ServiceInfoAdded}
 use Rattle.basis.specs.declared.answer.Answer.{Answer}
+use Rattle.values.specs.Layout.{sectionLength}
 
 abbrev pub list : Bool → Bool → Bool → List ServiceEntry → ℕ → ServiceInfo
 list start change complete services count =

@@ -5,8 +5,7 @@ use Prim.Native.Nat.{ℕ, _+_, _-_, _*_, _/_, _%_}
 use lib.Dec.{eqb, ltb}
 use lib.ListN.{getD}
 use Rattle.report.specs.Made.{made}
-use Rattle.service_entries.specs.Entries.{sectionLength}
-use Rattle.values.specs.Layout.{servicesId}
+use Rattle.values.specs.Layout.{servicesId, sectionLength}
 
 -- how many bytes the section of a count has
 abbrev pub goodSize : ℕ → ℕ

@@ -15,9 +15,9 @@ use Rattle.basis.specs.Bytes.{byte}
 use Rattle.basis.specs.Check.{Check, Verdict, check, clear, ifClear, sizeWhen, verdict, when}
 use Rattle.basis.specs.Mask.{under, xF0}
 use Rattle.values.specs.Flags.{flagsOf}
-use Rattle.values.specs.Layout.{servicesId}
+use Rattle.values.specs.Layout.{servicesId, sectionLength}
 use Rattle.values.specs.Rate.{fromId}
-use Rattle.service_entries.specs.Entries.{sectionChecks, sectionLength}
+use Rattle.service_entries.specs.Entries.{sectionChecks}
 use Rattle.service_list.specs.Section.{listOf, sectionRead}
 use Rattle.service_list.specs.ServiceList.{empty}
 use Rattle.read_captions.specs.Captions.{captionsChecks, captionsSize, handedOut}

@@ -15,8 +15,8 @@ use Rattle.basis.specs.Bytes.{byte, over, part}
 use Rattle.basis.specs.Check.{Check, check, clear, sizeWhen, verdict}
 use Rattle.basis.specs.Mask.{allSet, under, x0F, x80}
 use Rattle.values.specs.Flags.{flagsOf}
-use Rattle.values.specs.Layout.{servicesId}
-use Rattle.service_entries.specs.Entries.{countOf, sectionChecks, sectionLength}
+use Rattle.values.specs.Layout.{servicesId, sectionLength}
+use Rattle.service_entries.specs.Entries.{countOf, sectionChecks}
 use Rattle.service_list.specs.Section.{sectionRead}
 use Rattle.read_header.specs.Header.{flagsIn}
 use Rattle.read_services.specs.Services.{servicesSize}

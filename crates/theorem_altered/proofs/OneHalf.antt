@@ -11,7 +11,8 @@ use Rattle.basis.specs.Bytes.{part}
 use Rattle.basis.specs.Check.{clear, sizeWhen, verdict}
 use Rattle.basis.specs.Mask.{under, x0F, x1F}
 use Rattle.values.specs.Flags.{flagsOf}
-use Rattle.service_entries.specs.Entries.{countOf, sectionChecks, sectionLength}
+use Rattle.values.specs.Layout.{sectionLength}
+use Rattle.service_entries.specs.Entries.{countOf, sectionChecks}
 use Rattle.service_list.specs.Section.{listOf, sectionRead}
 use Rattle.service_list.specs.ServiceList.{listAbsent, listPresent}
 use Rattle.read_captions.specs.Captions.{captionCount, captionsSize, handedOut}

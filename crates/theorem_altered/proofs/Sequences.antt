@@ -20,6 +20,7 @@ use Rattle.theorem_altered.specs.Calls.{Shown, callShown, captionsShown,
 use Rattle.theorem_altered.specs.Twins.{Allowed, Excepted, Twin, Twins, after, altered, calls, exceptedAfter, firstOf, flushes, list, nothing, same, saveBoth, secondOf, withList}
 use Rattle.reader.specs.declared.parser.CDPParser.{CDPParser}
 use Rattle.basis.specs.declared.answer.Answer.{Answer}
+use Rattle.values.specs.Layout.{captionRoom}
 
 -- what a verdict on a packet shows, with room for captions
 abbrev pub given : Verdict → ℕ → CDPParser → CDPParser → List ℕ → Shown
@@ -31,7 +32,7 @@ out : (v : Verdict) (length : ℕ) (buffer captions : List ℕ) → (v ≡ clear
 out clear length buffer captions h = h refl
 out (broken why) length buffer captions h = rw (refused-not-done why)
 
-module _ (s : CDPParser) (p lent : List ℕ) (room : 95 ≤ length lent) where
+module _ (s : CDPParser) (p lent : List ℕ) (room : captionRoom ≤ length lent) where
   answered : read s p (length lent) .answer ≡ answer (verdict (packetChecks p)) (captionsLength p)
   unfolding read
   answered = simp (le-leb _ _ room)

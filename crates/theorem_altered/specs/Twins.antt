@@ -5,12 +5,12 @@ use Prim.Native.Nat.{ℕ, _≤_}
 use lib.Dec.{eqb}
 use lib.ListN.{length}
 use Rattle.reader.specs.Shown.{state}
-use Rattle.reader.specs.Reader.{captionRoom}
 use Rattle.theorem_altered.specs.Alteration.{newCaptions, newList}
 use Rattle.theorem_altered.specs.Calls.{Call, Shown, flush, packet}
 use Rattle.reader.specs.declared.parser.CDPParser.{CDPParser}
 use Rattle.service_list.specs.declared.list.MaybeServiceInfo.{MaybeServiceInfo}
 use Rattle.basis.specs.declared.answer.Answer.{Answer}
+use Rattle.values.specs.Layout.{captionRoom}
 
 -- a call of the first sequence and the one that stands for it in the second
 pub data Twin : Type 0 where

@@ -14,7 +14,7 @@ use Rattle.values_time.specs.Time as Time
 use Rattle.service_entry.specs.Entry as Entry
 use Rattle.service_entry.specs.EntryWriting.{entryBytes, entryCheck, entryWritten, written}
 use Rattle.service_list.specs.Section as Section
-use Rattle.service_entries.specs.Entries.{places, sectionLength}
+use Rattle.service_entries.specs.Entries.{places}
 use Rattle.service_entries.specs.Code.{entriesRead, sectionAnswer}
 use Rattle.service_list.specs.SectionWriting.{sectionBytes, sectionWritten, valueChecks}
 use Rattle.service_list.specs.Code.{valueAnswer}
@@ -36,6 +36,7 @@ use Rattle.writer.specs.Writer.{setServiceInfo}
 use Rattle.theorem_packet.proofs.Proper.{Proper, captions-proper, closing-proper, entry-proper, entry-write-proper, fine, header-proper, none, overflow-proper, packet-proper, packet-write-proper, read-proper, room, section-proper, services-proper, set-proper, shorter-smaller, time-code-proper, time-proper, time-write-proper, value-proper, where-there, with-room}
 use Rattle.theorem_packet.specs.FirstDemand.{FirstDemand, differ, inTable, never, refuses, smaller}
 use Rattle.basis.specs.declared.answer.Answer.{Answer}
+use Rattle.values.specs.Layout.{sectionLength}
 use Rattle.service_entry.specs.declared.entry.ServiceEntry.{ServiceEntry}
 use Rattle.service_list.specs.declared.list.ServiceInfo.{ServiceInfo}
 

@@ -7,12 +7,11 @@ use Prim.Native.Nat.{ℕ, _+_, _≤_}
 use lib.Dec.{eqb}
 use lib.ListN.{drop, length}
 use Rattle.basis.specs.Check.{Verdict, answer, clear, sizeWhen, verdict, when}
-use Rattle.values.specs.Layout.{timeCodeId}
+use Rattle.values.specs.Layout.{timeCodeId, sectionLength}
 use Rattle.values_time.specs.Time.{timeBytes, timePresent, timeWriteChecks}
 use Rattle.service_list.proofs.SectionBack.{named}
 use Rattle.service_list.proofs.SectionWrites.{value-done}
 use Rattle.service_list.specs.SectionBack.{Ready, allOfThree, namesFieldTwo}
-use Rattle.service_entries.specs.Entries.{sectionLength}
 use Rattle.service_list.specs.ServiceList.{listAbsent, listPresent}
 use Rattle.service_list.specs.SectionWriting.{counted, sectionBytes, valueChecks}
 use Rattle.service_list.specs.Code.{valueAnswer}

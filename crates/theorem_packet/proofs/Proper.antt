@@ -14,11 +14,11 @@ use Rattle.basis.specs.Answer.{InvalidFixedBits, InvalidServiceNumber, Refusal,
 use Rattle.basis.specs.Bytes.{byte}
 use Rattle.basis.specs.Check.{Check, Verdict, broken, check, clear, roomCheck, sizeCheck, verdict, when}
 use Rattle.basis.specs.Mask.{allClear, allSet, x3E, x3F, x80}
-use Rattle.values.specs.Layout.{footerId}
+use Rattle.values.specs.Layout.{footerId, sectionLength, captionRoom}
 use Rattle.values_time.specs.Time.{timeChecks, timeWriteChecks}
 use Rattle.service_entry.specs.Entry.{entryChecks}
 use Rattle.service_entry.specs.EntryWriting.{entryCheck}
-use Rattle.service_entries.specs.Entries.{checksAt, countOf, entryListChecks, sectionChecks, sectionLength, sixBehind}
+use Rattle.service_entries.specs.Entries.{checksAt, countOf, entryListChecks, sectionChecks, sixBehind}
 use Rattle.service_list.specs.SectionWriting.{counted, entryWriteChecks, valueChecks}
 use Rattle.read_header.specs.Header.{flagsIn, headerChecks, sequenceIn}
 use Rattle.read_time_code.specs.TimeCode.{timeCodeChecks}
@@ -27,7 +27,7 @@ use Rattle.read_services.proofs.ServicesReads.{count-at}
 use Rattle.read_services.specs.Services.{servicesPart, servicesChecks, servicesSize}
 use Rattle.read_closing.specs.Closing.{closingChecks, footerChecks, footerFrom, futureChecks, futureLength}
 use Rattle.read_packet.specs.Packet.{captionsAt, closingAt, packetChecks, servicesAt}
-use Rattle.reader.specs.Reader.{captionRoom, readChecks}
+use Rattle.reader.specs.Reader.{readChecks}
 use Rattle.write_checks.specs.Checks as Checks
 use Rattle.writer.specs.Writer.{setChecks}
 use Rattle.theorem_packet.specs.FirstDemand.{differ, refusalInTable, smaller}

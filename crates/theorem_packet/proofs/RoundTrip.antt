@@ -44,6 +44,7 @@ use Rattle.reader.specs.declared.parser.CDPParser.{CDPParser}
 use Rattle.service_list.specs.declared.list.ServiceInfo.{ServiceInfo}
 use Rattle.values.specs.declared.flags.Flags.{Flags}
 use Rattle.values.specs.declared.framerate.Framerate.{Framerate}
+use Rattle.values.specs.Layout.{captionRoom}
 use Rattle.writer.specs.declared.writer.CDPWriter.{CDPWriter}
 
 six : (a b c d e f : List ℕ) → a ++ b ++ c ++ d ++ e ++ f ≡ a ++ (b ++ (c ++ (d ++ (e ++ f))))
@@ -195,18 +196,18 @@ module _ (w : CDPWriter) (rate : Framerate) (captions : List ℕ)
       let timed : timeCodeOf p (flagsIn p .«time_code») 7 ≡ heldTime (w .«time_code») = ap (λ (f : Flags). timeCodeOf p (f .«time_code») 7) flags ∙ time .shown in
       rw (rated, timed, sequence, services-shown languages)
 
-  module _ (s : CDPParser) (lent : List ℕ) (room : 95 ≤ length lent) where
+  module _ (s : CDPParser) (lent : List ℕ) (room : captionRoom ≤ length lent) where
     got : read s p (length lent)
         ≡ record {
           answer = answer (named (fieldTwo (w .«service_info»))) (2 + run);
           parser = ifClear (named (fieldTwo (w .«service_info»))) (shownBy p) (cleared s);
         }
     unfolding read
-    got = simp (le-leb 95 (length lent) room, packet-verdict, captions-long)
+    got = simp (le-leb captionRoom (length lent) room, packet-verdict, captions-long)
 
     after : bufferAfter p lent ≡ ifClear (named (fieldTwo (w .«service_info»))) (over 0 (captionsBack captions) lent) lent
     unfolding bufferAfter
-    after = simp (le-leb 95 (length lent) room, packet-verdict, captions-handed)
+    after = simp (le-leb captionRoom (length lent) room, packet-verdict, captions-handed)
 
 -- what was written is what reading was said of
 module _ (w : CDPWriter) (rate : Framerate) (captions buffer : List ℕ) (done-so : eqb (heldWritten w rate captions buffer .answer .number) 0 ≡ true) where
@@ -226,7 +227,7 @@ module _ (w : CDPWriter) (rate : Framerate) (captions buffer : List ℕ) (done-s
   right-so : verdict (Checks.packetWriteChecks rate (w .«time_code») (w .«service_info») (length captions)) ≡ clear
   right-so = packet-done rate (w .sequence) (w .«time_code») (w .«service_info») captions buffer done-so .0
 
-  module _ (s : CDPParser) (lent : List ℕ) (room : 95 ≤ length lent) where
+  module _ (s : CDPParser) (lent : List ℕ) (room : captionRoom ≤ length lent) where
     abbrev packet : List ℕ
     packet = writtenPacket w rate captions buffer
 

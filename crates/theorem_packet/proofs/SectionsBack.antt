@@ -14,13 +14,13 @@ use Rattle.basis.proofs.Verdicts.{done-clear, done-value, kept-first, kept-rest
 use Rattle.basis.specs.Answer.{NotWritable}
 use Rattle.basis.specs.Bytes.{byte}
 use Rattle.basis.specs.Check.{Check, check, clear, verdict}
-use Rattle.values.specs.Layout.{captionsId, servicesId, timeCodeId}
+use Rattle.values.specs.Layout.{captionsId, servicesId, timeCodeId, sectionLength}
 use Rattle.values_time.specs.Time.{noTime, timeBytes, timeChecks, timeOf, timeRead, timeWriteChecks}
 use Rattle.values_time.specs.Code.{InRange}
 use Rattle.service_list.proofs.SectionBack.{byte-back, count-back, list-back, named, section-verdict}
 use Rattle.service_list.proofs.SectionWrites.{section-length}
 use Rattle.service_list.specs.SectionBack.{Ready, allOfThree, namesFieldTwo}
-use Rattle.service_entries.specs.Entries.{sectionChecks, sectionLength}
+use Rattle.service_entries.specs.Entries.{sectionChecks}
 use Rattle.service_list.specs.Section.{listOf}
 use Rattle.service_list.specs.SectionWriting.{counted, sectionByte, sectionBytes}
 use Rattle.read_captions.specs.Captions.{captionCount, captionsChecks, captionsSize, handedOut}

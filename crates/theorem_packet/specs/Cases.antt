@@ -15,12 +15,13 @@ use Rattle.service_list.specs.Section.{sectionRead}
 use Rattle.service_entries.specs.Entries.{filled}
 use Rattle.service_list.specs.ServiceList.{empty, list, listAbsent}
 use Rattle.reader.specs.Shown.{state}
-use Rattle.reader.specs.Reader.{bufferAfter, captionRoom, cleared, read}
+use Rattle.reader.specs.Reader.{bufferAfter, cleared, read}
 use Rattle.writer.specs.Writer as Writer
 use Rattle.service_entry.specs.declared.service.FieldOrService.the-variants.{Field}
 use Rattle.reader.specs.declared.parser.CDPParser.{CDPParser}
 use Rattle.service_list.specs.declared.section.ServiceInfoRead.{ServiceInfoRead}
 use Rattle.basis.specs.declared.answer.Answer.{Answer}
+use Rattle.values.specs.Layout.{captionRoom}
 use Rattle.values_time.specs.declared.time.MaybeTimeCode.{MaybeTimeCode}
 
 -- an answer by its number and its two values

@@ -6,12 +6,13 @@ use Prim.Native.Nat.{ℕ, _≤_}
 use lib.Dec.{eqb}
 use lib.ListN.{length}
 use Rattle.basis.specs.Answer.{ServiceNumberMismatch, refused}
-use Rattle.reader.specs.Reader.{captionRoom, cleared}
+use Rattle.reader.specs.Reader.{cleared}
 use Rattle.theorem_packet.specs.RoundTrip.{ReadBack, fieldTwo}
 use Rattle.writer.specs.Writer.{heldWritten}
 use Rattle.reader.specs.declared.parser.CDPParser.{CDPParser}
 use Rattle.reader.specs.declared.parser.CDPParserRead.{CDPParserRead}
 use Rattle.values.specs.declared.framerate.Framerate.{Framerate}
+use Rattle.values.specs.Layout.{captionRoom}
 use Rattle.writer.specs.declared.writer.CDPWriter.{CDPWriter}
 
 -- of a writer, a rate, captions, the buffer that is written, a reader and its caption buffer: what is given, and both buffers after it

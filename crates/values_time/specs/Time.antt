@@ -27,8 +27,8 @@ abbrev pub timeAbsent : MaybeTimeCode
 timeAbsent = record { present = false; «time_code» = noTime }
 
 -- the size of the section: an id byte and the four bytes
-abbrev pub timeSize : ℕ
-timeSize = 5
+abbrev pub timeCodeSize : ℕ
+timeCodeSize = 5
 
 -- the low four bits, 10 to 15 too
 abbrev pub units : ℕ → ℕ

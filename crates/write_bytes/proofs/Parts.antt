@@ -14,10 +14,9 @@ use Rattle.basis.specs.Bytes.{over}
 use Rattle.basis.specs.Code.{put}
 use Rattle.basis.specs.Check.{Verdict, clear, ifClear, sizeWhen, verdict}
 use Rattle.values.specs.Checksum.{negative, total}
-use Rattle.values.specs.Layout.{captionsId, timeCodeId}
+use Rattle.values.specs.Layout.{captionsId, timeCodeId, sectionLength}
 use Rattle.values_time.specs.Time.{timeBytes, timeWriteChecks, timeWritten}
 use Rattle.service_list.proofs.SectionWrites.{section-fits, section-length}
-use Rattle.service_entries.specs.Entries.{sectionLength}
 use Rattle.service_list.specs.SectionWriting.{sectionBytes, sectionWritten, valueChecks}
 use Rattle.write_checks.specs.Checks.{packetLength, servicesWriteChecks, servicesLength, timeCodeWriteChecks, timeCodeLength}
 use Rattle.write_bytes.specs.PacketWriting.{captionsBytes, heldFlags, footerBytes, headerBytes, packetBytes, servicesBytes, timeCodeBytes}

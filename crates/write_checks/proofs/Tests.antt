@@ -17,7 +17,6 @@ use Rattle.values.specs.Rate.{fromId, known, noRate}
 use Rattle.values_time.specs.Time.{timeWriteChecks, timeWritten}
 use Rattle.service_list.proofs.SectionWrites.{value-length}
 use Rattle.service_list.specs.ServiceList.{byteLen, countCheck}
-use Rattle.service_entries.specs.Entries.{sectionLength}
 use Rattle.service_list.specs.SectionWriting.{counted, entryWriteChecks, valueChecks}
 use Rattle.service_list.specs.Code.{valueAnswer}
 use Rattle.write_checks.specs.Checks.{fullTriplets, packetWriteChecks, packetLength, servicesWriteChecks, servicesLength, timeCodeWriteChecks, timeCodeLength}
@@ -28,6 +27,7 @@ use Rattle.service_list.specs.declared.list.ServiceInfo.{ServiceInfo}
 use Rattle.basis.specs.declared.answer.Answer.{Answer}
 use Rattle.values.specs.declared.framerate.Framerate.{Framerate}
 use Rattle.values.specs.declared.framerate.MaybeFramerate.{MaybeFramerate}
+use Rattle.values.specs.Layout.{sectionLength}
 use Rattle.values_time.specs.declared.time.MaybeTimeCode.{MaybeTimeCode}
 
 -- an answer and a length
@@ -84,7 +84,7 @@ module _ (services : MaybeServiceInfo) where
         ∙ held-done (services .present) (valueChecks list) (sectionLength (list .count)) held h
 
 -- a held list that can be written counts up to 15, so that its section has 107 bytes at most
-services-most : (present : Bool) (l : ServiceInfo) → verdict (when present (valueChecks l)) ≡ clear → sizeWhen present (2 + 7 * l .count) ≤ 107
+services-most : (present : Bool) (l : ServiceInfo) → verdict (when present (valueChecks l)) ≡ clear → sizeWhen present (sectionLength (l .count)) ≤ 107
 services-most true l h = let few : l .count ≤ 15 = leb-true _ _ (kept-first (countCheck l) (entryWriteChecks (counted l)) h) in omega arith
 services-most false l h = omega arith
 

@@ -6,11 +6,11 @@ use lib.Dec.{eqb, leb}
 use Rattle.basis.specs.Answer.{UnknownFramerate, WrongCaptionRun}
 use Rattle.basis.specs.Check.{Check, check, when, sizeWhen}
 use Rattle.values.specs.Rate.{known}
-use Rattle.values_time.specs.Time.{timeSize, timeWriteChecks}
-use Rattle.service_entries.specs.Entries.{sectionLength}
+use Rattle.values_time.specs.Time.{timeWriteChecks}
 use Rattle.service_list.specs.SectionWriting.{valueChecks}
 use Rattle.service_list.specs.declared.list.MaybeServiceInfo.{MaybeServiceInfo}
 use Rattle.values.specs.declared.framerate.Framerate.{Framerate}
+use Rattle.values.specs.Layout.{timeCodeSize, sectionLength}
 use Rattle.values_time.specs.declared.time.MaybeTimeCode.{MaybeTimeCode}
 
 -- a caption run has at most 93 bytes, three for each triplet
@@ -34,7 +34,7 @@ packetWriteChecks rate time services run =
 
 -- the sizes of the parts: header, time code, captions, services, footer
 abbrev pub timeCodeLength : MaybeTimeCode → ℕ
-timeCodeLength time = sizeWhen (time .present) timeSize
+timeCodeLength time = sizeWhen (time .present) timeCodeSize
 
 abbrev pub servicesLength : MaybeServiceInfo → ℕ
 servicesLength services = sizeWhen (services .present) (sectionLength (services .«service_info» .count))
