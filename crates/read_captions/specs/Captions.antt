@@ -6,19 +6,19 @@ use Rattle.basis.specs.Answer.{WrongMagic, InvalidFixedBits}
 use Rattle.basis.specs.Bytes.{byte, part}
 use Rattle.basis.specs.Check.{Check, check, sizeCheck}
 use Rattle.basis.specs.Mask.{under, allSet, xE0, x1F}
-use Rattle.values.specs.Layout.{captionsId}
+use Rattle.values.specs.Layout.{captionsId, sectionHeadSize, tripletSize}
 
 -- the count c is the low five bits of byte i+1
 abbrev pub captionCount : List ℕ → ℕ → ℕ
 captionCount p i = under x1F (byte p (i + 1))
 
 abbrev pub captionsSize : List ℕ → ℕ → ℕ
-captionsSize p i = 2 + 3 * captionCount p i
+captionsSize p i = sectionHeadSize + tripletSize * captionCount p i
 
 -- n is at least i+2; byte i is 72; byte i+1 has all of E0; n is at least i+2+3c
 abbrev pub captionsChecks : List ℕ → ℕ → List Check
 captionsChecks p i =
-    sizeCheck p (i + 2)
+    sizeCheck p (i + sectionHeadSize)
     ∷ check (eqb (byte p i) captionsId) WrongMagic
     ∷ check (allSet xE0 (byte p (i + 1))) InvalidFixedBits
     ∷ sizeCheck p (i + captionsSize p i)
@@ -26,4 +26,4 @@ captionsChecks p i =
 
 -- C0 + c, FF and the 3c bytes
 abbrev pub handedOut : List ℕ → ℕ → List ℕ
-handedOut p i = (0xC0 + captionCount p i) ∷ 0xFF ∷ part (i + 2) (3 * captionCount p i) p
+handedOut p i = (0xC0 + captionCount p i) ∷ 0xFF ∷ part (i + sectionHeadSize) (tripletSize * captionCount p i) p

@@ -15,8 +15,8 @@ pub fn test_captions(packet: &[u8], present: bool, at: u8) -> Tested
     }
     let size = packet.len();
     let i = at as usize;
-    if size < i + 2 {
-        return Tested::alone(Answer::length_mismatch(i + 2, size));
+    if size < i + Packet::SECTION_HEAD_LEN {
+        return Tested::alone(Answer::length_mismatch(i + Packet::SECTION_HEAD_LEN, size));
     }
     if packet[i] != Packet::CC_DATA_ID {
         return Tested::alone(Answer::WRONG_MAGIC);
@@ -26,7 +26,7 @@ pub fn test_captions(packet: &[u8], present: bool, at: u8) -> Tested
     if header / 32 % 8 != 7 {
         return Tested::alone(Answer::INVALID_FIXED_BITS);
     }
-    let length = 2 + 3 * (header % 32) as usize;
+    let length = Packet::SECTION_HEAD_LEN + Packet::TRIPLET_LEN * (header % 32) as usize;
     if size < i + length {
         return Tested::alone(Answer::length_mismatch(i + length, size));
     }

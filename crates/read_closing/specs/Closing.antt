@@ -8,7 +8,7 @@ use Rattle.basis.specs.Answer.{WrongMagic, SequenceCountMismatch, ChecksumFaile
 use Rattle.basis.specs.Bytes.{byte}
 use Rattle.basis.specs.Check.{Check, check, sizeCheck}
 use Rattle.values.specs.Checksum.{total, negative}
-use Rattle.values.specs.Layout.{footerId}
+use Rattle.values.specs.Layout.{footerId, footerSize, sectionHeadSize}
 use Rattle.values.specs.Sequence.{sequenceOf}
 
 -- L, the byte behind a future section's id
@@ -20,19 +20,19 @@ abbrev pub futureChecksAt : List ℕ → ℕ → List Check
 futureChecksAt p i =
     check (leb 0x75 (byte p i) && leb (byte p i) 0xEF) WrongMagic
     ∷ sizeCheck p (i + 1 + futureLength p i)
-    ∷ sizeCheck p (i + 2 + futureLength p i + 2)
+    ∷ sizeCheck p (i + sectionHeadSize + futureLength p i + sectionHeadSize)
     ∷ []
 
 -- while byte i is not 74, in at most so many turns; the packet's size is enough, since i moves on by two at least
 abbrev pub futureChecks : ℕ → List ℕ → ℕ → List Check
 futureChecks zero p i = []
 futureChecks (suc turns) p i =
-    cond (eqb (byte p i) footerId) [] (futureChecksAt p i ++ futureChecks turns p (i + 2 + futureLength p i))
+    cond (eqb (byte p i) footerId) [] (futureChecksAt p i ++ futureChecks turns p (i + sectionHeadSize + futureLength p i))
 
 -- where the footer stands
 abbrev pub footerFrom : ℕ → List ℕ → ℕ → ℕ
 footerFrom zero p i = i
-footerFrom (suc turns) p i = cond (eqb (byte p i) footerId) i (footerFrom turns p (i + 2 + futureLength p i))
+footerFrom (suc turns) p i = cond (eqb (byte p i) footerId) i (footerFrom turns p (i + sectionHeadSize + futureLength p i))
 
 -- rule 9: the negative of the sum of all bytes but the packet's last
 abbrev pub checksumOf : List ℕ → ℕ
@@ -41,7 +41,7 @@ checksumOf p = negative (total (take (length p - 1) p))
 -- rule 9 at i: n is at least i+4; the sequence again; the checksum
 abbrev pub footerChecks : List ℕ → ℕ → ℕ → List Check
 footerChecks p sequence i =
-    sizeCheck p (i + 4)
+    sizeCheck p (i + footerSize)
     ∷ check (eqb (sequenceOf (byte p (i + 1)) (byte p (i + 2))) sequence) SequenceCountMismatch
     ∷ check (eqb (byte p (i + 3)) (checksumOf p)) ChecksumFailed
     ∷ []
@@ -49,4 +49,4 @@ footerChecks p sequence i =
 -- rules 8 and 9: n is at least i+2; the future sections; the footer
 unfoldable pub closingChecks : List ℕ → ℕ → ℕ → List Check
 closingChecks p sequence i =
-    sizeCheck p (i + 2) ∷ futureChecks (length p) p i ++ footerChecks p sequence (footerFrom (length p) p i)
+    sizeCheck p (i + sectionHeadSize) ∷ futureChecks (length p) p i ++ footerChecks p sequence (footerFrom (length p) p i)

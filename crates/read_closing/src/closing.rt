@@ -2,6 +2,7 @@
 ghost use mathlib.Core.Path.{_≡_};
 ghost use Prim.Native.Nat.{_+_, _≤_};
 ghost use lib.ListN.{length};
+ghost use Rattle.values.specs.Layout.{sectionHeadSize};
 ghost use Rattle.read_closing.specs.Code.{closingRead, footerRead};
 use basis::Answer;
 use values::Packet;
@@ -14,8 +15,8 @@ pub fn test_closing(packet: &[u8], sequence: u16, at: u8) -> Answer
 {
     let size = packet.len();
     let mut i = at as usize;
-    if size < i + 2 {
-        return Answer::length_mismatch(i + 2, size);
+    if size < i + Packet::SECTION_HEAD_LEN {
+        return Answer::length_mismatch(i + Packet::SECTION_HEAD_LEN, size);
     }
     while packet[i] != Packet::CDP_FOOTER_ID {
         if packet[i] < 0x75 {
@@ -29,9 +30,9 @@ pub fn test_closing(packet: &[u8], sequence: u16, at: u8) -> Answer
         if size < i + 1 + length {
             return Answer::length_mismatch(i + 1 + length, size);
         }
-        let next = i + 2 + length;
-        if size < next + 2 {
-            return Answer::length_mismatch(next + 2, size);
+        let next = i + Packet::SECTION_HEAD_LEN + length;
+        if size < next + Packet::SECTION_HEAD_LEN {
+            return Answer::length_mismatch(next + Packet::SECTION_HEAD_LEN, size);
         }
         i = next;
     }
@@ -40,12 +41,12 @@ pub fn test_closing(packet: &[u8], sequence: u16, at: u8) -> Answer
 
 // Tests the footer at a place. More bytes may follow it.
 fn test_footer(packet: &[u8], sequence: u16, i: usize) -> Answer
-    requires { ⌜ i + 2 ≤ length (now packet) ⌝ }
+    requires { ⌜ i + sectionHeadSize ≤ length (now packet) ⌝ }
     ensures { λ r. ⌜ r ≡ footerRead (now (packet .entry)) sequence i ⌝ }
 {
     let size = packet.len();
-    if size < i + 4 {
-        return Answer::length_mismatch(i + 4, size);
+    if size < i + Packet::FOOTER_LEN {
+        return Answer::length_mismatch(i + Packet::FOOTER_LEN, size);
     }
     if sequence_count(packet[i + 1], packet[i + 2]) != sequence {
         return Answer::SEQUENCE_COUNT_MISMATCH;

@@ -3,7 +3,7 @@ use mathlib.Core.List.{List, _++_}
 use Prim.Native.Nat.{ℕ, _+_}
 use lib.ListN.{length}
 use Rattle.basis.specs.Check.{Check, when, sizeWhen}
-use Rattle.values.specs.Layout.{timeCodeSize}
+use Rattle.values.specs.Layout.{headerSize, timeCodeSize}
 use Rattle.read_captions.specs.Captions.{captionsChecks, captionsSize}
 use Rattle.read_closing.specs.Closing.{closingChecks, footerFrom}
 use Rattle.read_header.specs.Header.{headerChecks, flagsIn, sequenceIn}
@@ -12,7 +12,7 @@ use Rattle.read_time_code.specs.TimeCode.{timeCodeChecks}
 
 -- i, as it moves on: behind the header, the time code, the captions, the services
 abbrev pub timeCodeAt : ℕ
-timeCodeAt = 7
+timeCodeAt = headerSize
 
 abbrev pub captionsAt : List ℕ → ℕ
 captionsAt p = timeCodeAt + sizeWhen (flagsIn p .«time_code») timeCodeSize

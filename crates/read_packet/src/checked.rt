@@ -9,6 +9,7 @@ use read_services::test_services;
 use read_time_code::TimeCodeSection;
 use values::Flags;
 use values::MaybeFramerate;
+use values::Packet;
 use values_time::MaybeTimeCode;
 
 // What reading gives: beside a refusal, nothing but the answer. The list is left for the reader to make when nothing is
@@ -49,12 +50,12 @@ impl Checked {
             return Self::refused(header_answer);
         }
         let flags = header.flags;
-        let section = TimeCodeSection::parse(packet, flags.time_code, 7);
+        let section = TimeCodeSection::parse(packet, flags.time_code, Packet::HEADER_LEN as u8);
         let time_code_answer = section.answer;
         if !time_code_answer.is_done() {
             return Self::refused(time_code_answer);
         }
-        let captions_at = 7 + section.size;
+        let captions_at = Packet::HEADER_LEN + section.size;
         let captions = test_captions(packet, flags.cc_data, captions_at as u8);
         let captions_answer = captions.answer;
         if !captions_answer.is_done() {

@@ -7,7 +7,7 @@ use Rattle.basis.specs.Answer.{WrongMagic, ServiceFlagsMismatched}
 use Rattle.basis.specs.Bytes.{byte, part}
 use Rattle.basis.specs.Check.{Check, check, sizeCheck}
 use Rattle.basis.specs.Mask.{under, x0F}
-use Rattle.values.specs.Layout.{servicesId, sectionLength}
+use Rattle.values.specs.Layout.{sectionHeadSize, sectionLength, servicesId}
 use Rattle.service_entries.specs.Entries.{sectionChecks}
 use Rattle.service_list.specs.Section.{listOf}
 use Rattle.service_list.specs.ServiceList.{listPresent, listAbsent}
@@ -32,7 +32,7 @@ sameFlags l f =
 -- n is at least i+2; byte i is 73; n is at least i+2+7s; the rules of a section; the flags
 abbrev pub servicesChecks : List ℕ → Flags → ℕ → List Check
 servicesChecks p f i =
-    sizeCheck p (i + 2)
+    sizeCheck p (i + sectionHeadSize)
     ∷ check (eqb (byte p i) servicesId) WrongMagic
     ∷ sizeCheck p (i + servicesSize p i)
     ∷ sectionChecks (servicesPart p i)

@@ -20,14 +20,14 @@ pub fn test_services(packet: &[u8], flags: Flags, at: u8) -> Tested
     }
     let size = packet.len();
     let i = at as usize;
-    if size < i + 2 {
-        return Tested::alone(Answer::length_mismatch(i + 2, size));
+    if size < i + Packet::SECTION_HEAD_LEN {
+        return Tested::alone(Answer::length_mismatch(i + Packet::SECTION_HEAD_LEN, size));
     }
     if packet[i] != Packet::SVC_INFO_ID {
         return Tested::alone(Answer::WRONG_MAGIC);
     }
     let header = packet[i + 1];
-    let length = 2 + 7 * (header % 16) as usize;
+    let length = Packet::SECTION_HEAD_LEN + Packet::SECTION_ENTRY_LEN * (header % 16) as usize;
     if size < i + length {
         return Tested::alone(Answer::length_mismatch(i + length, size));
     }

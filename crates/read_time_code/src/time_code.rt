@@ -2,6 +2,7 @@
 ghost use mathlib.Core.Path.{_≡_};
 ghost use Prim.Native.Nat.{_+_, _≤_};
 ghost use lib.ListN.{length};
+ghost use Rattle.values.specs.Layout.{timeCodeSize};
 ghost use Rattle.read_time_code.specs.Code.{fourBehind, noTimeCode, timeCodeRead};
 use basis::Answer;
 use values::Packet;
@@ -16,8 +17,6 @@ pub struct TimeCodeSection {
 }
 
 impl TimeCodeSection {
-    const SIZE: usize = 5;
-
     // No time code, with this answer.
     fn without(answer: Answer) -> Self
         ensures { λ r. ⌜ r ≡ noTimeCode answer ⌝ }
@@ -38,8 +37,8 @@ impl TimeCodeSection {
         }
         let size = packet.len();
         let i = at as usize;
-        if size < i + Self::SIZE {
-            return Self::without(Answer::length_mismatch(i + Self::SIZE, size));
+        if size < i + Packet::TIME_CODE_LEN {
+            return Self::without(Answer::length_mismatch(i + Packet::TIME_CODE_LEN, size));
         }
         if packet[i] != Packet::TIME_CODE_ID {
             return Self::without(Answer::WRONG_MAGIC);
@@ -56,14 +55,14 @@ impl TimeCodeSection {
                 present: true,
                 time_code,
             },
-            size: Self::SIZE,
+            size: Packet::TIME_CODE_LEN,
         }
     }
 }
 
 // The four bytes behind the id byte.
 fn four_behind(packet: &[u8], i: usize) -> [u8; 4]
-    requires { ⌜ i + 5 ≤ length (now packet) ⌝ }
+    requires { ⌜ i + timeCodeSize ≤ length (now packet) ⌝ }
     ensures { λ r. ⌜ r ≡ fourBehind (now (packet .entry)) i ⌝ }
 {
     [packet[i + 1], packet[i + 2], packet[i + 3], packet[i + 4]]

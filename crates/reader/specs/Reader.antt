@@ -6,6 +6,7 @@ use lib.Dec.{leb}
 use lib.ListN.{length}
 use Rattle.basis.specs.Bytes.{over}
 use Rattle.basis.specs.Check.{Check, roomCheck, verdict, answer, ifClear}
+use Rattle.values.specs.Layout.{captionRoom}
 use Rattle.values.specs.Rate.{noRate}
 use Rattle.values_time.specs.Time.{timeAbsent}
 use Rattle.read_captions.specs.Captions.{handedOut}
@@ -14,10 +15,6 @@ use Rattle.read_packet.specs.Packet.{captionsAt, captionsLength, packetChecks}
 use Rattle.reader.specs.Shown.{freshReader, shownBy, state}
 use Rattle.reader.specs.declared.parser.CDPParser.{CDPParser}
 use Rattle.reader.specs.declared.parser.CDPParserRead.{CDPParserRead}
-
--- the most that a packet can hand out: 2 and three times 31
-abbrev pub captionRoom : ℕ
-captionRoom = 95
 
 -- rules 1 to 9
 abbrev pub readChecks : List ℕ → ℕ → List Check

@@ -8,6 +8,7 @@ ghost use Rattle.basis.specs.Bytes.{over};
 ghost use Rattle.values.specs.Layout.{captionRoom};
 ghost use Rattle.read_captions.specs.Captions.{captionsSize, handedOut};
 use basis::put;
+use values::Packet;
 
 // Puts C0 + c, FF and the caption bytes of the section at a place at the start of the lent buffer; without a section,
 // nothing. The room is asked for, so that no put refuses.
@@ -21,7 +22,11 @@ pub(crate) fn hand_out(packet: &[u8], present: bool, at: u8, captions: &mut [u8]
     }
     let i = at as usize;
     let count = packet[i + 1] % 32;
-    let end = i + (2 + 3 * count as usize);
+    let end = i + (Packet::SECTION_HEAD_LEN + Packet::TRIPLET_LEN * count as usize);
     put(captions, 0, &[0xC0 + count, 0xFF]);
-    put(captions, 2, &packet[i + 2..end]);
+    put(
+        captions,
+        Packet::SECTION_HEAD_LEN,
+        &packet[i + Packet::SECTION_HEAD_LEN..end],
+    );
 }

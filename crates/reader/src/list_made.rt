@@ -5,6 +5,7 @@ ghost use Prim.Native.Nat.{_+_, _*_, _-_, _≤_};
 ghost use lib.ListN.{length};
 ghost use Rattle.basis.specs.Bytes.{byte};
 ghost use Rattle.basis.specs.Check.{verdict, clear};
+ghost use Rattle.values.specs.Layout.{sectionEntrySize};
 ghost use Rattle.service_entry.specs.Entry as Entry;
 ghost use Rattle.service_entries.specs.Entries as Entries;
 ghost use Rattle.read_header.specs.Header.{flagsIn};
@@ -17,6 +18,7 @@ use service_entry::ServiceEntry;
 use service_list::MaybeServiceInfo;
 use service_list::ServiceInfo;
 use values::Flags;
+use values::Packet;
 
 // The list of an accepted packet with these flags, whose services begin at this place; none where there is no flag for
 // them. One place makes both. Nothing can call it of a packet that breaks a rule.
@@ -29,7 +31,7 @@ pub(crate) fn list(packet: &[u8], flags: Flags, at: u8) -> MaybeServiceInfo
     let i = at as usize;
     let header = header(packet, flags.svc_info, i + 1);
     let count = (header % 16) as usize;
-    let services = places(packet, i + 2, count);
+    let services = places(packet, i + Packet::SECTION_HEAD_LEN, count);
     MaybeServiceInfo {
         present: flags.svc_info,
         service_info: ServiceInfo {
@@ -53,12 +55,12 @@ fn header(packet: &[u8], present: bool, at: usize) -> u8
 // So many entries from a place on, and fillers behind them.
 fn places(packet: &[u8], from: usize, count: usize) -> [ServiceEntry; 15]
     requires { ⌜ count ≤ 15 ⌝ }
-    requires { ⌜ 7 * count ≤ length (now packet) - from ⌝ }
+    requires { ⌜ sectionEntrySize * count ≤ length (now packet) - from ⌝ }
     ensures { λ r. ⌜ r ≡ Entries.filled (Entries.entriesOf (now (packet .entry)) from count) ⌝ }
 {
     let mut services = fillers();
     for k in 0..count {
-        let entry = entry(packet, from + 7 * k);
+        let entry = entry(packet, from + Packet::SECTION_ENTRY_LEN * k);
         services[k] = entry;
     }
     services
@@ -66,7 +68,7 @@ fn places(packet: &[u8], from: usize, count: usize) -> [ServiceEntry; 15]
 
 // The entry behind the header byte at a place. Made so, and not by the entry's own reader, it is tested once and not twice.
 fn entry(packet: &[u8], at: usize) -> ServiceEntry
-    requires { ⌜ at + 7 ≤ length (now packet) ⌝ }
+    requires { ⌜ at + sectionEntrySize ≤ length (now packet) ⌝ }
     ensures { λ r. ⌜ r ≡ Entry.entryOf (Entries.sixBehind (now (packet .entry)) at) ⌝ }
 {
     ServiceEntry {

@@ -3,6 +3,7 @@ ghost use mathlib.Core.List.{_∷_};
 ghost use mathlib.Core.Path.{_≡_};
 ghost use lib.ListN.{length};
 ghost use Rattle.values.specs.Code.{layoutConstants};
+ghost use Rattle.values.specs.Layout.{captionRoom};
 ghost use Rattle.reader.specs.Shown.{freshReader};
 ghost use Rattle.reader.specs.Reader as Reader;
 use crate::hand_out::hand_out;
@@ -40,11 +41,11 @@ impl CDPParser {
     pub const CDP_FOOTER_ID: u8 = Packet::CDP_FOOTER_ID;
 
     // Rule 1: room for the most captions that a packet can have.
-    pub const CAPTION_ROOM: usize = 95;
+    pub const CAPTION_ROOM: usize = Packet::CAPTION_ROOM;
 
     // Nothing calls this: its contract holds every constant above to the rules.
     fn held() -> [usize; 6]
-        ensures { λ r. ⌜ r ≡ Reader.captionRoom ∷ layoutConstants ⌝ }
+        ensures { λ r. ⌜ r ≡ captionRoom ∷ layoutConstants ⌝ }
     {
         [
             Self::CAPTION_ROOM,

@@ -5,7 +5,7 @@ use Prim.Native.Nat.{ℕ, _+_, _*_, _/_, _%_}
 use lib.ListN.{length}
 use Rattle.basis.specs.Bytes.{byte}
 use Rattle.basis.specs.Check.{verdict, answer, ifClear}
-use Rattle.values.specs.Layout.{servicesId}
+use Rattle.values.specs.Layout.{sectionHeadSize, sectionLength, servicesId}
 use Rattle.service_entries.specs.Entries.{checksAt, filled, fillers, countOf, entriesOf, sectionChecks}
 use Rattle.basis.specs.declared.answer.Answer.{Answer}
 use Rattle.service_entries.specs.declared.entries.EntriesRead.{EntriesRead}
@@ -15,7 +15,7 @@ pub record Framed (d : List ℕ) (header : ℕ) : Type 0 where
   pub id : byte d 0 ≡ servicesId
   pub first : byte d 1 ≡ header
   pub fixed : header / 128 % 2 ≡ 1
-  pub size : length d ≡ 2 + 7 * (header % 16)
+  pub size : length d ≡ sectionLength (header % 16)
 
 -- what testing a header byte and its entry gives
 unfoldable pub answerAt : List ℕ → ℕ → Answer
@@ -29,7 +29,7 @@ sectionAnswer d = answer (verdict (sectionChecks d)) 0
 unfoldable pub entriesRead : List ℕ → EntriesRead
 entriesRead d =
     let v = verdict (sectionChecks d) in
-    record { answer = answer v 0; services = ifClear v (filled (entriesOf d 2 (countOf d))) fillers }
+    record { answer = answer v 0; services = ifClear v (filled (entriesOf d sectionHeadSize (countOf d))) fillers }
 
 -- a refusal shows no entry
 abbrev pub refusedEntries : Answer → EntriesRead

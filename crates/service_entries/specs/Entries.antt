@@ -8,7 +8,7 @@ use Rattle.basis.specs.Answer.{LengthMismatch, WrongMagic, InvalidFixedBits, Se
 use Rattle.basis.specs.Bytes.{byte}
 use Rattle.basis.specs.Check.{Check, check, sizeCheck}
 use Rattle.basis.specs.Mask.{under, allSet, x80, x40, x20, x3F, x1F, x0F}
-use Rattle.values.specs.Layout.{servicesId}
+use Rattle.values.specs.Layout.{sectionEntrySize, sectionHeadSize, sectionLength, servicesId}
 use Rattle.service_entry.specs.Entry.{entryChecks, entryOf}
 use Rattle.service_entry.specs.Service.{filler, numberOf}
 use Rattle.service_entry.specs.declared.entry.ServiceEntry.{ServiceEntry}
@@ -24,10 +24,6 @@ filled entries = entries ++ replicate (places - length entries) filler
 abbrev pub fillers : List ServiceEntry
 fillers = replicate places filler
 
--- the length of a section with so many entries
-abbrev pub sectionLength : ℕ → ℕ
-sectionLength count = 2 + 7 * count
-
 -- S4: the count of entries is the low four bits of byte 1
 abbrev pub countOf : List ℕ → ℕ
 countOf d = under x0F (byte d 1)
@@ -35,7 +31,7 @@ countOf d = under x0F (byte d 1)
 -- S1 to S4: two bytes; 73; bit 80 of byte 1; seven bytes for each entry behind these two
 abbrev pub frameChecks : List ℕ → List Check
 frameChecks d =
-    sizeCheck d 2
+    sizeCheck d sectionHeadSize
     ∷ check (eqb (byte d 0) servicesId) WrongMagic
     ∷ check (allSet x80 (byte d 1)) InvalidFixedBits
     ∷ check (eqb (length d) (sectionLength (countOf d))) (LengthMismatch (sectionLength (countOf d)) (length d))
@@ -60,11 +56,11 @@ checksAt d at =
 -- so many entries from a place on, first to last: their checks, and what they hold
 abbrev pub entryListChecks : List ℕ → ℕ → ℕ → List Check
 entryListChecks d at zero = []
-entryListChecks d at (suc n) = checksAt d at ++ entryListChecks d (at + 7) n
+entryListChecks d at (suc n) = checksAt d at ++ entryListChecks d (at + sectionEntrySize) n
 
 abbrev pub entriesOf : List ℕ → ℕ → ℕ → List ServiceEntry
 entriesOf d at zero = []
-entriesOf d at (suc n) = entryOf (sixBehind d at) ∷ entriesOf d (at + 7) n
+entriesOf d at (suc n) = entryOf (sixBehind d at) ∷ entriesOf d (at + sectionEntrySize) n
 
 unfoldable pub sectionChecks : List ℕ → List Check
-sectionChecks d = frameChecks d ++ entryListChecks d 2 (countOf d)
+sectionChecks d = frameChecks d ++ entryListChecks d sectionHeadSize (countOf d)

@@ -1,12 +1,14 @@
 // The entries of a section, read: tested first, then made.
 ghost use mathlib.Core.Path.{_≡_};
 ghost use Rattle.basis.specs.Check.{verdict, clear};
+ghost use Rattle.values.specs.Layout.{sectionHeadSize};
 ghost use Rattle.service_entries.specs.Entries as Entries;
 ghost use Rattle.service_entries.specs.Code as Code;
 use crate::section_tests::six_behind;
 use crate::section_tests::test_section;
 use basis::Answer;
 use service_entry::ServiceEntry;
+use values::Packet;
 
 // What reading gives: the entries in the first places, the filler in the others; beside a refusal, in all.
 pub struct EntriesRead {
@@ -49,12 +51,15 @@ pub fn read_entries(data: &[u8]) -> EntriesRead
 // The places of a section that is right: each entry as its own reader gives it.
 fn places(data: &[u8]) -> [ServiceEntry; 15]
     requires { ⌜ verdict (Entries.sectionChecks (now «data»)) ≡ clear ⌝ }
-    ensures { λ r. ⌜ r ≡ Entries.filled (Entries.entriesOf (now («data» .entry)) 2 (Entries.countOf (now («data» .entry)))) ⌝ }
+    ensures { λ r. ⌜ r ≡ Entries.filled (Entries.entriesOf (now («data» .entry)) sectionHeadSize (Entries.countOf (now («data» .entry)))) ⌝ }
 {
     let count = (data[1] % 16) as usize;
     let mut services = fillers();
     for k in 0..count {
-        let read = ServiceEntry::parse(six_behind(data, 2 + 7 * k));
+        let read = ServiceEntry::parse(six_behind(
+            data,
+            Packet::SECTION_HEAD_LEN + Packet::SECTION_ENTRY_LEN * k,
+        ));
         let entry = read.entry;
         services[k] = entry;
     }

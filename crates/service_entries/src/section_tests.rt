@@ -2,6 +2,7 @@
 ghost use mathlib.Core.Path.{_≡_};
 ghost use Prim.Native.Nat.{_+_, _≤_};
 ghost use lib.ListN.{length};
+ghost use Rattle.values.specs.Layout.{sectionEntrySize};
 ghost use Rattle.service_entries.specs.Entries as Entries;
 ghost use Rattle.service_entries.specs.Code as Code;
 ghost use Rattle.service_entry.specs.Service as Service;
@@ -15,8 +16,8 @@ pub fn test_section(data: &[u8]) -> Answer
     ensures { λ r. ⌜ r ≡ Code.sectionAnswer (now («data» .entry)) ⌝ }
 {
     let size = data.len();
-    if size < 2 {
-        return Answer::length_mismatch(2, size);
+    if size < Packet::SECTION_HEAD_LEN {
+        return Answer::length_mismatch(Packet::SECTION_HEAD_LEN, size);
     }
     if data[0] != Packet::SVC_INFO_ID {
         return Answer::WRONG_MAGIC;
@@ -26,7 +27,7 @@ pub fn test_section(data: &[u8]) -> Answer
     if header / 128 % 2 != 1 {
         return Answer::INVALID_FIXED_BITS;
     }
-    let expected = 2 + 7 * (header % 16) as usize;
+    let expected = Packet::SECTION_HEAD_LEN + Packet::SECTION_ENTRY_LEN * (header % 16) as usize;
     if size != expected {
         return Answer::length_mismatch(expected, size);
     }
@@ -40,7 +41,10 @@ fn test_entries(data: &[u8], header: u8) -> Answer
 {
     let count = (header % 16) as usize;
     for k in 0..count {
-        let answer = test_at(data, 2 + 7 * k);
+        let answer = test_at(
+            data,
+            Packet::SECTION_HEAD_LEN + Packet::SECTION_ENTRY_LEN * k,
+        );
         if !answer.is_done() {
             return answer;
         }
@@ -50,7 +54,7 @@ fn test_entries(data: &[u8], header: u8) -> Answer
 
 // Tests the header byte at a place and the entry behind it.
 fn test_at(data: &[u8], at: usize) -> Answer
-    requires { ⌜ at + 7 ≤ length (now «data») ⌝ }
+    requires { ⌜ at + sectionEntrySize ≤ length (now «data») ⌝ }
     ensures { λ r. ⌜ r ≡ Code.answerAt (now («data» .entry)) at ⌝ }
 {
     let header = data[at];
@@ -77,7 +81,7 @@ fn test_at(data: &[u8], at: usize) -> Answer
 
 // The six bytes behind a header byte.
 pub(crate) fn six_behind(data: &[u8], at: usize) -> [u8; 6]
-    requires { ⌜ at + 7 ≤ length (now «data») ⌝ }
+    requires { ⌜ at + sectionEntrySize ≤ length (now «data») ⌝ }
     ensures { λ r. ⌜ r ≡ Entries.sixBehind (now («data» .entry)) at ⌝ }
 {
     [

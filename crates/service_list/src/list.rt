@@ -5,6 +5,7 @@ ghost use Rattle.service_entries.specs.Entries.{places};
 use basis::Answer;
 use service_entries::fillers;
 use service_entry::ServiceEntry;
+use values::Packet;
 
 pub struct ServiceInfo {
     pub start: bool,
@@ -128,6 +129,6 @@ impl ServiceInfo {
         if Self::PLACES < self.count {
             return Answer::WOULD_OVERFLOW;
         }
-        Answer::done(2 + 7 * self.count)
+        Answer::done(Packet::SECTION_HEAD_LEN + Packet::SECTION_ENTRY_LEN * self.count)
     }
 }

@@ -4,6 +4,7 @@ ghost use mathlib.Core.Bool.{true};
 ghost use Prim.Native.Nat.{_+_, _*_, _≤_};
 ghost use lib.ListN.{length};
 ghost use Rattle.basis.specs.Bytes as Bytes;
+ghost use Rattle.values.specs.Layout.{sectionHeadSize, sectionLength};
 ghost use Rattle.service_list.specs.SectionWriting as Writing;
 ghost use Rattle.service_list.specs.Code.{allWritable, valueAnswer};
 use crate::list::ServiceInfo;
@@ -51,7 +52,7 @@ impl ServiceInfo {
     // The two bytes of the section's own, then the entries.
     fn put_section(self, out: &mut [u8])
         requires { ⌜ self .count ≤ 15 ⌝ }
-        requires { ⌜ 2 + 7 * self .count ≤ length (now out) ⌝ }
+        requires { ⌜ sectionLength (self .count) ≤ length (now out) ⌝ }
         requires { ⌜ allWritable (Writing.counted self) ≡ true ⌝ }
         ensures { λ _. ⌜ now (out .exit) ≡ Bytes.over 0 (Writing.sectionBytes self) (now (out .entry)) ⌝ }
     {
@@ -90,13 +91,17 @@ fn all_writable(services: [ServiceEntry; 15], count: usize) -> bool
 // Each entry is built in seven bytes of its own, which are put behind the others.
 fn put_entries(services: [ServiceEntry; 15], count: usize, out: &mut [u8])
     requires { ⌜ count ≤ 15 ⌝ }
-    requires { ⌜ 2 + 7 * count ≤ length (now out) ⌝ }
+    requires { ⌜ sectionLength count ≤ length (now out) ⌝ }
     requires { ⌜ allWritable (Writing.placesFrom services 0 count) ≡ true ⌝ }
-    ensures { λ _. ⌜ now (out .exit) ≡ Bytes.over 2 (Writing.entryListBytes (Writing.placesFrom services 0 count)) (now (out .entry)) ⌝ }
+    ensures { λ _. ⌜ now (out .exit) ≡ Bytes.over sectionHeadSize (Writing.entryListBytes (Writing.placesFrom services 0 count)) (now (out .entry)) ⌝ }
 {
     for k in 0..count {
         let entry = services[k];
         let bytes = entry.section_bytes();
-        put(out, 2 + 7 * k, &bytes);
+        put(
+            out,
+            Packet::SECTION_HEAD_LEN + Packet::SECTION_ENTRY_LEN * k,
+            &bytes,
+        );
     }
 }

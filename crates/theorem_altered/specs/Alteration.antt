@@ -16,6 +16,7 @@ use Rattle.read_services.specs.Services.{servicesPart, servicesOf}
 use Rattle.read_packet.specs.Packet.{captionsAt, closingAt, footerAt, packetChecks, servicesAt}
 use Rattle.service_list.specs.declared.list.MaybeServiceInfo.{MaybeServiceInfo}
 use Rattle.service_list.specs.declared.list.ServiceInfo.{ServiceInfo}
+use Rattle.values.specs.Layout.{footerSize}
 use Rattle.values.specs.declared.flags.Flags.{Flags}
 
 -- where the caption bytes begin, behind the section's id and count; they end where the service section stands
@@ -25,7 +26,7 @@ captionsFrom p = captionsAt p + sizeWhen (flagsIn p .«cc_data») 2
 -- other bytes in a span, equally many, in an accepted packet that ends with its footer, and the checksum mended
 pub record Put (from to : ℕ) (p q : List ℕ) : Type 0 where
   pub accepted : verdict (packetChecks p) ≡ clear
-  pub endsWithFooter : length p ≡ footerAt p + 4
+  pub endsWithFooter : length p ≡ footerAt p + footerSize
   pub equallyMany : length q ≡ length p
   -- outside the span all is the same, but for byte 4, the flags, and the last, the checksum
   pub beforeFlags : take 4 q ≡ take 4 p

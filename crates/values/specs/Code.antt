@@ -1,12 +1,30 @@
 -- Follows the code and not the rules: what stands beside a refusal, and the layoutConstants that are held.
 use mathlib.Core.List.{List, [], _∷_}
 use Prim.Native.Nat.{ℕ}
-use Rattle.values.specs.Layout.{leastSize, timeCodeId, captionsId, servicesId, footerId}
+use Rattle.values.specs.Layout.{
+  captionRoom,
+  captionRun,
+  captionsId,
+  footerId,
+  footerSize,
+  headerSize,
+  leastSize,
+  sectionEntrySize,
+  sectionHeadSize,
+  servicesId,
+  timeCodeId,
+  timeCodeSize,
+  tripletSize,
+}
 use mathlib.Core.Bool.{false}
 use Rattle.values.specs.declared.flags.Flags.{Flags}
 
 abbrev pub layoutConstants : List ℕ
 layoutConstants = leastSize ∷ timeCodeId ∷ captionsId ∷ servicesId ∷ footerId ∷ []
+
+abbrev pub layoutSizes : List ℕ
+layoutSizes =
+    headerSize ∷ timeCodeSize ∷ sectionHeadSize ∷ tripletSize ∷ sectionEntrySize ∷ footerSize ∷ captionRoom ∷ captionRun ∷ []
 
 -- each flag's bit: time code, captions, services, start, change, complete, caption service active, reserved
 abbrev pub bits : List ℕ

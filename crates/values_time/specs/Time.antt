@@ -26,10 +26,6 @@ timePresent t = record { present = true; «time_code» = t }
 abbrev pub timeAbsent : MaybeTimeCode
 timeAbsent = record { present = false; «time_code» = noTime }
 
--- the size of the section: an id byte and the four bytes
-abbrev pub timeCodeSize : ℕ
-timeCodeSize = 5
-
 -- the low four bits, 10 to 15 too
 abbrev pub units : ℕ → ℕ
 units b = under x0F b

@@ -6,6 +6,7 @@ ghost use lib.ListN.{length, take};
 ghost use Rattle.basis.specs.Bytes as Bytes;
 ghost use Rattle.basis.specs.Check.{verdict, clear};
 ghost use Rattle.values.specs.Checksum.{total, negative};
+ghost use Rattle.values.specs.Layout.{captionRun, footerSize, sectionHeadSize};
 ghost use Rattle.write_checks.specs.Checks as Checks;
 ghost use Rattle.write_bytes.specs.PacketWriting as Writing;
 use basis::Answer;
@@ -94,7 +95,7 @@ fn put_packet(
 {
     let header = header_bytes(size, framerate, flags(time_code, service_info), sequence);
     put(out, 0, &header);
-    let captions_at = put_time_code(time_code, 7, out);
+    let captions_at = put_time_code(time_code, Packet::HEADER_LEN, out);
     let services_at = put_captions(captions, captions_at, out);
     let footer_at = put_services(service_info, services_at, out);
     put_footer(sequence, footer_at, out);
@@ -131,21 +132,21 @@ fn put_time_code(time_code: MaybeTimeCode, at: usize, out: &mut [u8]) -> usize
     let id = [Packet::TIME_CODE_ID];
     put(out, at, &id);
     put(out, at + 1, &bytes);
-    at + 5
+    at + Packet::TIME_CODE_LEN
 }
 
 // The captions go in as they are.
 fn put_captions(captions: &[u8], at: usize, out: &mut [u8]) -> usize
-    requires { ⌜ length (now captions) ≤ 93 ⌝ }
-    requires { ⌜ at + (2 + length (now captions)) ≤ length (now out) ⌝ }
-    ensures { λ r. ⌜ r ≡ at + (2 + length (now (captions .entry))) ⌝ }
+    requires { ⌜ length (now captions) ≤ captionRun ⌝ }
+    requires { ⌜ at + (sectionHeadSize + length (now captions)) ≤ length (now out) ⌝ }
+    ensures { λ r. ⌜ r ≡ at + (sectionHeadSize + length (now (captions .entry))) ⌝ }
     ensures { λ _. ⌜ now (out .exit) ≡ Bytes.over at (Writing.captionsBytes (now (captions .entry))) (now (out .entry)) ⌝ }
 {
     let run = captions.len();
-    let head = [Packet::CC_DATA_ID, 0xE0 + (run / 3) as u8];
+    let head = [Packet::CC_DATA_ID, 0xE0 + (run / Packet::TRIPLET_LEN) as u8];
     put(out, at, &head);
-    put(out, at + 2, captions);
-    at + (2 + run)
+    put(out, at + Packet::SECTION_HEAD_LEN, captions);
+    at + (Packet::SECTION_HEAD_LEN + run)
 }
 
 fn put_services(service_info: MaybeServiceInfo, at: usize, out: &mut [u8]) -> usize
@@ -163,7 +164,7 @@ fn put_services(service_info: MaybeServiceInfo, at: usize, out: &mut [u8]) -> us
 
 // The checksum is of all that stands before it.
 fn put_footer(sequence: u16, at: usize, out: &mut [u8])
-    requires { ⌜ at + 4 ≤ length (now out) ⌝ }
+    requires { ⌜ at + footerSize ≤ length (now out) ⌝ }
     ensures { λ _. ⌜ now (out .exit) ≡ Bytes.over at (Writing.footerBytes sequence ++ negative (total (take at (now (out .entry)) ++ Writing.footerBytes sequence)) ∷ []) (now (out .entry)) ⌝ }
 {
     let count = sequence_bytes(sequence);

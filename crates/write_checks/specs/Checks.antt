@@ -5,17 +5,17 @@ use Prim.Native.Nat.{ℕ, _+_, _%_}
 use lib.Dec.{eqb, leb}
 use Rattle.basis.specs.Answer.{UnknownFramerate, WrongCaptionRun}
 use Rattle.basis.specs.Check.{Check, check, when, sizeWhen}
+use Rattle.values.specs.Layout.{captionRun, footerSize, headerSize, sectionHeadSize, sectionLength, timeCodeSize, tripletSize}
 use Rattle.values.specs.Rate.{known}
 use Rattle.values_time.specs.Time.{timeWriteChecks}
 use Rattle.service_list.specs.SectionWriting.{valueChecks}
 use Rattle.service_list.specs.declared.list.MaybeServiceInfo.{MaybeServiceInfo}
 use Rattle.values.specs.declared.framerate.Framerate.{Framerate}
-use Rattle.values.specs.Layout.{timeCodeSize, sectionLength}
 use Rattle.values_time.specs.declared.time.MaybeTimeCode.{MaybeTimeCode}
 
 -- a caption run has at most 93 bytes, three for each triplet
 abbrev pub fullTriplets : ℕ → Bool
-fullTriplets run = leb run 93 && eqb (run % 3) 0
+fullTriplets run = leb run captionRun && eqb (run % tripletSize) 0
 
 -- what is not held is unread
 abbrev pub timeCodeWriteChecks : MaybeTimeCode → List Check
@@ -40,4 +40,5 @@ abbrev pub servicesLength : MaybeServiceInfo → ℕ
 servicesLength services = sizeWhen (services .present) (sectionLength (services .«service_info» .count))
 
 abbrev pub packetLength : MaybeTimeCode → MaybeServiceInfo → ℕ → ℕ
-packetLength time services run = 7 + timeCodeLength time + (2 + run) + servicesLength services + 4
+packetLength time services run =
+    headerSize + timeCodeLength time + (sectionHeadSize + run) + servicesLength services + footerSize

@@ -4,10 +4,8 @@ ghost use Rattle.write_checks.specs.Code as Code;
 use basis::Answer;
 use service_list::MaybeServiceInfo;
 use values::Framerate;
+use values::Packet;
 use values_time::MaybeTimeCode;
-
-// The most captions that a packet can have: 31 triplets.
-const CAPTION_RUN: usize = 93;
 
 // What testing something that is to be written gives: the answer, and its length beside it. The length is 0 where it is
 // not held, and beside a refusal.
@@ -36,10 +34,10 @@ pub fn writable(
     if !framerate.is_known() {
         return WriteTested::alone(Answer::UNKNOWN_FRAMERATE);
     }
-    if CAPTION_RUN < run {
+    if Packet::CAPTION_RUN < run {
         return WriteTested::alone(Answer::WRONG_CAPTION_RUN);
     }
-    if run % 3 != 0 {
+    if run % Packet::TRIPLET_LEN != 0 {
         return WriteTested::alone(Answer::WRONG_CAPTION_RUN);
     }
     let timed = time_code_tested(time_code);
@@ -54,7 +52,11 @@ pub fn writable(
     }
     WriteTested {
         answer: Answer::done(0),
-        length: 7 + timed.length + (2 + run) + served.length + 4,
+        length: Packet::HEADER_LEN
+            + timed.length
+            + (Packet::SECTION_HEAD_LEN + run)
+            + served.length
+            + Packet::FOOTER_LEN,
     }
 }
 
@@ -70,7 +72,10 @@ fn time_code_tested(time_code: MaybeTimeCode) -> WriteTested
     if !answer.is_done() {
         return WriteTested::alone(answer);
     }
-    WriteTested { answer, length: 5 }
+    WriteTested {
+        answer,
+        length: Packet::TIME_CODE_LEN,
+    }
 }
 
 // 10 or 12 where a list that is held cannot be written.

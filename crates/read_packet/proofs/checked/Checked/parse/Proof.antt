@@ -78,6 +78,9 @@ returns c =
     let wrong = sym (c .before .before .is-done .ensures) ∙ not-true _ (c .before .if1 .taken) in
     c .refused .ensures ∙ rw e (header-refused _ (rw e at wrong))
 
+cast-parse : tie.Need-cast-parse
+cast-parse c = omega arith
+
 parse-requires-2 : tie.Need-parse-requires-2
 parse-requires-2 c κs = search needs
 
@@ -202,6 +205,7 @@ parse-spec =
     is-done-requires
     refused-requires
     returns
+    cast-parse
     parse-requires-2
     is-done-requires-2
     refused-requires-2
