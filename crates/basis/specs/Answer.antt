@@ -25,7 +25,7 @@ pub data Refusal : Type 0 where
   BufferTooShort : ℕ → ℕ → Refusal
   -- 12: a value that cannot be written
   NotWritable : Refusal
-  -- 13: a caption run over 93 bytes, or no multiple of 3
+  -- 13: captions that are no whole triplets, or more than 31 of them
   WrongCaptionRun : Refusal
 
 -- an answer whose two values are 0

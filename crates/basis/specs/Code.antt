@@ -1,4 +1,4 @@
--- Follows the code and not the rules: what testing a part gives, what putting bytes leaves, and the answerConstants that are held.
+-- Follows the code and not the rules: what testing a part gives, what putting bytes leaves, and the constants that are held.
 use mathlib.Core.List.{List, [], _∷_}
 use Prim.Native.Nat.{ℕ, _-_}
 use lib.ListN.{length}

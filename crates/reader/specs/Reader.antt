@@ -41,6 +41,6 @@ captionsOf p = cond (flagsIn p .«cc_data») (handedOut p (captionsAt p)) []
 unfoldable pub bufferAfter : List ℕ → List ℕ → List ℕ
 bufferAfter p buffer = ifClear (verdict (readChecks p (length buffer))) (over 0 (captionsOf p) buffer) buffer
 
--- a flush makes the state freshReader
+-- a flush makes the state fresh
 abbrev pub flushedReader : CDPParser → CDPParser
 flushedReader s = freshReader

@@ -61,7 +61,7 @@ entryBytes e =
 unfoldable pub entryWritten : ServiceEntry → List ℕ → Written
 entryWritten e buffer = written (verdict (entryCheck e ∷ roomCheck entryLength (length buffer) ∷ [])) (entryBytes e) buffer
 
--- an entry's header byte: 80 + number; 80 for field 1, 81 for field 2
+-- an entry's header byte: a digital number above 80; 80 where field 1 is named, for field 2 the next
 abbrev pub headerByte : FieldOrService → ℕ
 headerByte (Field first) = cond first 0x80 0x81
 headerByte (Service digital) = 0x80 + digital .service

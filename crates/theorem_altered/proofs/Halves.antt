@@ -58,7 +58,7 @@ captions-alone (t ∷ ts) (a, as′) e s h =
     (captions-alone ts as′ (exceptedAfter t (first .answer) e) (first .parser) kept)
 
 -- The first half: other caption bytes, equally many, in any of the accepted packets that end with their footer. All answers
--- and all that is shown stay the same, save those packets' captions, which are the new ones.
+-- and all that is shown are as before, but for the captions of those packets: there stand the new ones.
 pub first-half : (s : CDPParser) (ts : List Twin) → Twins OtherCaptions ts
     → runCalls s (calls secondOf ts) ≡ after saveCaptions ts nothing (runCalls s (calls firstOf ts))
 first-half s ts h = both-halves s ts (twins OtherCaptions Altered captions-altered ts h) ∙ captions-alone ts h nothing s refl
@@ -82,8 +82,8 @@ services-alone (t ∷ ts) (a, as′) e s =
     ap₂ _∷_ (ap (λ (c : List ℕ). record { answer = first .answer; parser = withList next (first .parser); captions = c }) (uncaptioned t a s))
     (services-alone ts as′ next (first .parser))
 
--- The second half: another well-formed service section with as many entries. Only the service list differs, from that callShown
--- until the next accepted packet or flush.
+-- The second half: another well-formed service section with as many entries. Nothing but the list
+-- is another, and that no longer than to the next acceptance or flush.
 pub second-half : (s : CDPParser) (ts : List Twin) → Twins OtherServices ts
     → runCalls s (calls secondOf ts) ≡ after saveList ts nothing (runCalls s (calls firstOf ts))
 second-half s ts h = both-halves s ts (twins OtherServices Altered services-altered ts h) ∙ services-alone ts h nothing s

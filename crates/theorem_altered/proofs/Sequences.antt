@@ -1,4 +1,4 @@
--- The third demand: one callShown, and from there any sequence of calls.
+-- The third demand: one call, and from there any sequence of calls.
 -- Assumes nothing.
 use mathlib.Core.Bool.{Bool, cond}
 use mathlib.Core.List.{List, [], _∷_}
@@ -72,7 +72,7 @@ differs : (p q lent lent′ : List ℕ) (a : Altered p q) (e : Excepted) (s : CD
     ≡ saveBoth (altered p q lent lent′) (list (newList p q)) (given (verdict (packetChecks p)) (captionsLength p) (shownBy p) s (captionsOf p))
 differs p q lent lent′ a e s = rw (accepted-too p q a, a .put .accepted, captions-length p q a, shown-too p q a, captions-new p q a)
 
--- one callShown: what the second sequence shows
+-- one call: what the second sequence shows
 abbrev saved : Twin → Excepted → Shown → Shown
 saved t e a = saveBoth t (exceptedAfter t (a .answer) e) a
 

@@ -9,18 +9,18 @@ use Rattle.reader.specs.Reader.{bufferAfter, flushedReader, read}
 use Rattle.reader.specs.declared.parser.CDPParser.{CDPParser}
 use Rattle.basis.specs.declared.answer.Answer.{Answer}
 
--- a callShown on the reader: a packet, with the caption buffer that is lent for it, or a flush
+-- a call on the reader: a packet, with the caption buffer that is lent for it, or a flush
 pub data Call : Type 0 where
   packet : List ℕ → List ℕ → Call
   flush : Call
 
--- what a callShown shows: its answer with the two numbers; rate, time code, sequence and service list; the captions
+-- what a call shows: its answer with the two numbers; rate, time code, sequence and service list; the captions
 pub record Shown : Type 0 where
   pub answer : Answer
   pub parser : CDPParser
   pub captions : List ℕ
 
--- on acceptance as many first bytes of the caption buffer as the answer's length, else none
+-- what a packet that passed has put into the caption buffer: its start, so long as the answer says; else nothing
 abbrev pub captionsShown : Answer → List ℕ → List ℕ
 captionsShown a buffer = cond (eqb (a .number) 0) (take (a .first) buffer) []
 
@@ -38,7 +38,7 @@ abbrev pub callShown : CDPParser → Call → Shown
 callShown s (packet p buffer) = packetShown s p buffer
 callShown s flush = record { answer = done 0; parser = flushedReader s; captions = [] }
 
--- one callShown after the other, each on the state that the one before it left
+-- one call after the other, each on the state that the one before it left
 abbrev pub runCalls : CDPParser → List Call → List Shown
 runCalls s [] = []
 runCalls s (c ∷ cs) = callShown s c ∷ runCalls (callShown s c .parser) cs

@@ -34,7 +34,7 @@ abbrev pub calls : (Twin → Call) → List Twin → List Call
 calls of [] = []
 calls of (t ∷ ts) = of t ∷ calls of ts
 
--- each packet is read with a caption buffer of at least 95 bytes, in both sequences
+-- no packet of either sequence is read with a caption buffer that is too short
 pub record Lent (lent lent′ : List ℕ) : Type 0 where
   pub first : captionRoom ≤ length lent
   pub second : captionRoom ≤ length lent′

@@ -1,4 +1,4 @@
--- Follows the code and not the rules: what stands beside a refusal, and the layoutConstants that are held.
+-- Follows the code and not the rules: what stands beside a refusal, and the constants that are held.
 use mathlib.Core.List.{List, [], _∷_}
 use Prim.Native.Nat.{ℕ}
 use Rattle.values.specs.Layout.{

@@ -1,4 +1,4 @@
--- Rule 3: the rate id is the high four bits of byte 3; ids 1 to 8 are the eight rates.
+-- Rule 3: the eight rates, by the ids 1 to 8 that the upper half of byte 3 names.
 use mathlib.Core.Bool.{Bool, true, false, cond, _&&_}
 use mathlib.Core.List.{List, [], _∷_}
 use Prim.Native.Nat.{ℕ}

@@ -1,4 +1,4 @@
--- `round_trip::written_and_read` meets its contract. That the languages of the writer's list have three bytes is what owning the
+-- `theorem_round_trip::written_and_read` meets its contract. That the languages of the writer's list have three bytes is what owning the
 -- parameter tells, `good .0`: a value of the type is one with arrays of the lengths that the type has.
 -- Assumes nothing.
 use mathlib.Core.Path.{_∙_, sym}

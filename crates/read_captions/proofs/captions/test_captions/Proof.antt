@@ -1,4 +1,4 @@
--- `cc_section::test_captions` is rule 6, test by test.
+-- `read_captions::test_captions` is rule 6, test by test.
 -- Assumes nothing.
 use mathlib.Core.Path.{_∙_}
 use native.Mathlib.Omega.{arith}

@@ -1,4 +1,4 @@
--- `footer::test_closing`: over the future sections of rule 8, and then rule 9.
+-- `read_closing::test_closing`: over the future sections of rule 8, and then rule 9.
 -- Assumes nothing.
 use mathlib.Core.Path.{_∙_}
 use Prim.Native.Nat.{_+_, _-_}

@@ -1,4 +1,4 @@
--- `footer::footer::footer` is rule 9, test by test.
+-- `read_closing::closing::test_footer` is rule 9, test by test.
 -- Assumes nothing.
 use mathlib.Core.Path.{_∙_, sym}
 use native.Mathlib.Omega.{arith}

@@ -1,4 +1,4 @@
--- `svc_section::section::same_flags`: all three, one after the other.
+-- `read_services::services::same_flags`: all three, one after the other.
 -- Assumes nothing.
 use Rattle.read_services.proofs.ServicesReads.{start-differs, change-differs, complete-decides}
 use Rattle.read_services.proofs.services.same_flags.Statement.{statement}

@@ -1,4 +1,4 @@
--- `svc_section::test_services` is rule 7, test by test.
+-- `read_services::test_services` is rule 7, test by test.
 -- Assumes nothing.
 use mathlib.Core.Path.{_∙_, ap, sym}
 use native.Mathlib.Omega.{arith}

@@ -1,4 +1,4 @@
--- `reader::captions::hand_out`: nothing, or two bytes and the captions behind them.
+-- `reader::hand_out::hand_out`: nothing, or two bytes and the captions behind them.
 -- Assumes nothing.
 use mathlib.Core.Path.{_∙_}
 use native.Mathlib.Omega.{arith}

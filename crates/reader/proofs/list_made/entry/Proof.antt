@@ -1,4 +1,4 @@
--- `reader::list::entry`: the language as it stands, and what bytes 3 and 4 name.
+-- `reader::list_made::entry`: the language as it stands, and what bytes 3 and 4 name.
 -- Assumes nothing.
 use borrow.Author.Needs.{needs}
 use Rattle.reader.proofs.list_made.entry.Statement.{statement}

@@ -1,4 +1,4 @@
--- `reader::list::header`: byte 1 of a section that is there.
+-- `reader::list_made::header`: byte 1 of a section that is there.
 -- Assumes nothing.
 use native.Mathlib.Omega.{arith}
 use borrow.Author.Needs.{needs}

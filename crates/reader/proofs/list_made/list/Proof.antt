@@ -1,4 +1,4 @@
--- `reader::list::list`: the section's list, or none.
+-- `reader::list_made::list`: the section's list, or none.
 -- Assumes nothing.
 use native.Mathlib.Omega.{arith}
 use denote.Ref.{now}

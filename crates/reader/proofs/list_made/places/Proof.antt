@@ -1,4 +1,4 @@
--- `reader::list::places`: after k turns the first k places have what the first k entries hold.
+-- `reader::list_made::places`: after k turns the first k places have what the first k entries hold.
 -- Assumes nothing.
 use mathlib.Core.Path.{_≡_, _∙_, refl}
 use Prim.Native.Nat.{_≤_, _-_}

@@ -1,4 +1,4 @@
--- `reader::list::service_of`: digital where bit 80 is set, else a field.
+-- `reader::list_made::service_of`: digital where bit 80 is set, else a field.
 -- Assumes nothing.
 use Rattle.service_entry.proofs.EntryReads.{digital-is, field-is}
 use Rattle.reader.proofs.list_made.service_of.Statement.{statement}

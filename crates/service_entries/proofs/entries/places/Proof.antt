@@ -1,4 +1,4 @@
--- `svc_entries::section::places`: after k turns the first k places have what the first k entries hold.
+-- `service_entries::entries::places`: after k turns the first k places have what the first k entries hold.
 -- Assumes nothing.
 use mathlib.Core.Path.{_≡_, _∙_, ap, refl}
 use Prim.Native.Nat.{_≤_, _-_}

@@ -1,4 +1,4 @@
--- `svc_entries::read_entries`: the tests decide, and what they let through is made.
+-- `service_entries::read_entries`: the tests decide, and what they let through is made.
 -- Assumes nothing.
 use mathlib.Core.Path.{_∙_, ap, sym}
 use borrow.Author.Tests.{not-true, not-false}

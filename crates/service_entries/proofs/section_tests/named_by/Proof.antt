@@ -1,4 +1,4 @@
--- `svc_entries::testing::named_by`: the low five bits with bit 40, the low six without.
+-- `service_entries::section_tests::named_by`: the low five bits with bit 40, the low six without.
 -- Assumes nothing.
 use native.Mathlib.Omega.{arith}
 use borrow.Author.Tests.{eq-eqb, ne-eqb}

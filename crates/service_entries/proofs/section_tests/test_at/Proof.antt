@@ -1,4 +1,4 @@
--- `svc_entries::testing::test_at` is rules S5 to S8: each return is where a test is the first that fails, or where none does.
+-- `service_entries::section_tests::test_at` is rules S5 to S8: each return is where a test is the first that fails, or where none does.
 -- Assumes nothing.
 use mathlib.Core.Path.{_∙_, ap, sym}
 use native.Mathlib.Omega.{arith}

@@ -1,4 +1,4 @@
--- `svc_entries::testing::test_entries`: after k turns what is left to test are the entries from k on.
+-- `service_entries::section_tests::test_entries`: after k turns what is left to test are the entries from k on.
 -- Assumes nothing.
 use mathlib.Core.Path.{_≡_, _∙_, sym, refl}
 use Prim.Native.Nat.{_≤_, _-_}

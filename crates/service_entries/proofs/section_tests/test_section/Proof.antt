@@ -1,4 +1,4 @@
--- `svc_entries::test_section` is rules S1 to S4, and then the entries.
+-- `service_entries::test_section` is rules S1 to S4, and then the entries.
 -- Assumes nothing.
 use mathlib.Core.Path.{_∙_}
 use native.Mathlib.Omega.{arith}

@@ -1,4 +1,4 @@
--- `entries::entry::service_of`: digital where bit 80 is set, else a field.
+-- `service_entry::entry::service_of`: digital where bit 80 is set, else a field.
 -- Assumes nothing.
 use Rattle.service_entry.proofs.EntryReads.{digital-is, field-is}
 use Rattle.service_entry.proofs.entry.service_of.Statement.{statement}

@@ -1,4 +1,4 @@
--- `entries::writing::flags_byte`: the two flags of a digital service, none of a field.
+-- `service_entry::entry_writing::flags_byte`: the two flags of a digital service, none of a field.
 -- Assumes nothing.
 use borrow.Author.Needs.{needs}
 use Rattle.service_entry.proofs.entry_writing.flags_byte.Statement.{statement}

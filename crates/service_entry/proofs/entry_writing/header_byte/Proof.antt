@@ -1,4 +1,4 @@
--- `entries::writing::header_byte`: an entry's header byte, by what it names.
+-- `service_entry::entry_writing::header_byte`: an entry's header byte, by what it names.
 -- Assumes nothing.
 use borrow.Author.Needs.{needs}
 use Rattle.service_entry.proofs.entry_writing.header_byte.Statement.{statement}

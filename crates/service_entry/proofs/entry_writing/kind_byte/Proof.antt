@@ -1,4 +1,4 @@
--- `entries::writing::kind_byte`: an entry's byte 3, by what it names.
+-- `service_entry::entry_writing::kind_byte`: an entry's byte 3, by what it names.
 -- Assumes nothing.
 use borrow.Author.Needs.{needs}
 use Rattle.service_entry.proofs.entry_writing.kind_byte.Statement.{statement}

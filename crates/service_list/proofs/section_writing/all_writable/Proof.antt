@@ -1,4 +1,4 @@
--- `services::writing::all_writable`: after k turns what is left to see is the entries from k on.
+-- `service_list::section_writing::all_writable`: after k turns what is left to see is the entries from k on.
 -- Assumes nothing.
 use mathlib.Core.Path.{_≡_, _∙_, sym}
 use Prim.Native.Nat.{_≤_, _-_}

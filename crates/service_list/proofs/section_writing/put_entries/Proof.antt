@@ -1,4 +1,4 @@
--- `services::writing::put_entries`: after k turns the first k entries stand behind the section's two bytes.
+-- `service_list::section_writing::put_entries`: after k turns the first k entries stand behind the section's two bytes.
 -- Assumes nothing.
 use mathlib.Core.Bool.{true}
 use mathlib.Core.Path.{_≡_, _∙_, sym, refl}

@@ -1,4 +1,4 @@
--- `reader_sweep::bytes::put`: one byte, where there is room for it.
+-- `sweep_reader::bytes::put`: one byte, where there is room for it.
 -- Assumes nothing.
 use Rattle.sweep_reader.proofs.Rooms.{one, no-room}
 use borrow.Author.Needs.{needs}

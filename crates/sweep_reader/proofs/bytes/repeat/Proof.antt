@@ -1,4 +1,4 @@
--- `reader_sweep::bytes::repeat`: after k turns the byte is put k times.
+-- `sweep_reader::bytes::repeat`: after k turns the byte is put k times.
 -- Assumes nothing.
 use mathlib.Core.Path.{_≡_}
 use Prim.Native.Nat.{_≤_, _-_}

@@ -1,4 +1,4 @@
--- `reader_sweep::change::changed`: the byte is put, the packet mended and read.
+-- `sweep_reader::change::changed`: the byte is put, the packet mended and read.
 -- Assumes nothing.
 use mathlib.Core.Path.{_∙_, ap}
 use Rattle.sweep_reader.specs.Change.{mendedIf}

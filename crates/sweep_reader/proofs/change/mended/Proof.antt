@@ -1,4 +1,4 @@
--- `reader_sweep::change::mended`: mended, or as it was.
+-- `sweep_reader::change::mended`: mended, or as it was.
 -- Assumes nothing.
 use borrow.Author.Needs.{needs}
 use Rattle.sweep_reader.proofs.change.mended.Statement.{statement}

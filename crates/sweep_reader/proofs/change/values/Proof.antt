@@ -1,4 +1,4 @@
--- `reader_sweep::change::values`: after so many turns so many values are read.
+-- `sweep_reader::change::values`: after so many turns so many values are read.
 -- Assumes nothing.
 use mathlib.Core.Path.{_≡_}
 use Prim.Native.Nat.{_≤_, _-_}

@@ -1,4 +1,4 @@
--- `reader_sweep::entry::bytes`: byte by byte.
+-- `sweep_reader::entry::bytes`: byte by byte.
 -- Assumes nothing.
 use borrow.Author.Needs.{needs}
 use Rattle.sweep_reader.proofs.entry.bytes.Statement.{statement}

@@ -1,4 +1,4 @@
--- `reader_sweep::entry::kind`: a field, or a digital service.
+-- `sweep_reader::entry::kind`: a field, or a digital service.
 -- Assumes nothing.
 use borrow.Author.Tests.{eq-eqb, ne-eqb}
 use Rattle.sweep_reader.specs.Make.{kindMade}

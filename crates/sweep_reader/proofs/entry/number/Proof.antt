@@ -1,4 +1,4 @@
--- `reader_sweep::entry::number`: a field names 0.
+-- `sweep_reader::entry::number`: a field names 0.
 -- Assumes nothing.
 use borrow.Author.Tests.{eq-eqb, ne-eqb}
 use Rattle.sweep_reader.specs.Make.{numberMade}

@@ -1,4 +1,4 @@
--- `reader_sweep::list::maybe`: whether it is there, the flags, the count, the entries.
+-- `sweep_reader::list::maybe`: whether it is there, the flags, the count, the entries.
 -- Assumes nothing.
 use mathlib.Core.Path.{_∙_}
 use Rattle.sweep_reader.specs.Shown.{listFed}

@@ -1,4 +1,4 @@
--- `reader_sweep::make::entries`: after k turns the first k entries are put.
+-- `sweep_reader::make::entries`: after k turns the first k entries are put.
 -- Assumes nothing.
 use mathlib.Core.Path.{_≡_}
 use Prim.Native.Nat.{_≤_, _-_}

@@ -1,4 +1,4 @@
--- `reader_sweep::make::finish`: the size is put, and the checksum packetMended.
+-- `sweep_reader::make::finish`: the size is put, and the checksum mended.
 -- Assumes nothing.
 use mathlib.Core.Path.{_∙_, ap}
 use Rattle.sweep_reader.specs.Make.{finished}

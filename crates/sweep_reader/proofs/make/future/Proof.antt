@@ -1,4 +1,4 @@
--- `reader_sweep::make::future`: its two bytes, then its content.
+-- `sweep_reader::make::future`: its two bytes, then its content.
 -- Assumes nothing.
 use Rattle.sweep_reader.proofs.Rooms.{behind}
 use borrow.Author.Needs.{needs}

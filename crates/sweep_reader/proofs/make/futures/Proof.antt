@@ -1,4 +1,4 @@
--- `reader_sweep::make::futures`: none, one or two.
+-- `sweep_reader::make::futures`: none, one or two.
 -- Assumes nothing.
 use borrow.Author.Tests.{eq-eqb, ne-eqb}
 use Rattle.sweep_reader.specs.Make.{futuresMade}

@@ -1,4 +1,4 @@
--- `reader_sweep::make::header`: byte by byte.
+-- `sweep_reader::make::header`: byte by byte.
 -- Assumes nothing.
 use borrow.Author.Needs.{needs}
 use Rattle.sweep_reader.proofs.make.header.Statement.{statement}

@@ -1,4 +1,4 @@
--- `reader_sweep::make::packet`: what is put is within the buffer, and is finished there.
+-- `sweep_reader::make::packet`: what is put is within the buffer, and is finished there.
 -- Assumes nothing.
 use Rattle.sweep_reader.proofs.Parts.{packet-put}
 use Rattle.sweep_reader.proofs.Rooms.{put-within}

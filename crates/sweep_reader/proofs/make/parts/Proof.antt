@@ -1,4 +1,4 @@
--- `reader_sweep::make::parts`: each part behind the one before it.
+-- `sweep_reader::make::parts`: each part behind the one before it.
 -- Assumes nothing.
 use Rattle.sweep_reader.specs.Make.{partsMade}
 use Rattle.sweep_reader.proofs.Rooms.{behind}

@@ -1,4 +1,4 @@
--- `reader_sweep::mend::mend`: the byte that mends is cleared, the sum made, and its negative put there.
+-- `sweep_reader::mend::mend`: the byte that mends is cleared, the sum made, and its negative put there.
 -- Assumes nothing.
 use mathlib.Core.Path.{ap}
 use Prim.Native.Nat.{ℕ, _-_}

@@ -1,4 +1,4 @@
--- `reader_sweep::mend::mender`: the checksum byte, or the first behind it.
+-- `sweep_reader::mend::mender`: the checksum byte, or the first behind it.
 -- Assumes nothing.
 use borrow.Author.Tests.{eq-eqb, ne-eqb}
 use native.Mathlib.Omega.{arith}

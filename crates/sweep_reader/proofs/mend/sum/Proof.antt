@@ -1,4 +1,4 @@
--- `reader_sweep::mend::sum`: after k turns the sum is that of the first k bytes, modulo 256.
+-- `sweep_reader::mend::sum`: after k turns the sum is that of the first k bytes, modulo 256.
 -- Assumes nothing.
 use mathlib.Core.Path.{_≡_}
 use Prim.Native.Nat.{_≤_, _<_, _-_, _%_}

@@ -1,4 +1,4 @@
--- `reader_sweep::read::answer_fed`: the number, and two bytes of each value.
+-- `sweep_reader::read::answer_fed`: the number, and two bytes of each value.
 -- Assumes nothing.
 use mathlib.Core.Path.{_∙_}
 use borrow.Author.Needs.{needs}

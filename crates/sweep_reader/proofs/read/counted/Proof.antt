@@ -1,4 +1,4 @@
--- `reader_sweep::read::counted`: one more where the answer is 0.
+-- `sweep_reader::read::counted`: one more where the answer is 0.
 -- Assumes nothing.
 use mathlib.Core.Path.{_∙_, sym}
 use borrow.Author.Needs.{needs}

@@ -1,4 +1,4 @@
--- `reader_sweep::read::packet`: the buffer is filled, the packet read, and all that is seen fed.
+-- `sweep_reader::read::packet`: the buffer is filled, the packet read, and all that is seen fed.
 -- Assumes nothing.
 use Rattle.sweep_reader.proofs.Changes.{packet-read}
 use borrow.Author.Needs.{needs}

@@ -1,4 +1,4 @@
--- `reader_sweep::shown::four`: the high two bytes, then the low ones.
+-- `sweep_reader::shown::four`: the high two bytes, then the low ones.
 -- Assumes nothing.
 use mathlib.Core.Path.{_∙_}
 use borrow.Author.Needs.{needs}

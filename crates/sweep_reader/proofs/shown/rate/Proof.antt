@@ -1,4 +1,4 @@
--- `reader_sweep::shown::rate`: whether it is there, its id and its two numbers.
+-- `sweep_reader::shown::rate`: whether it is there, its id and its two numbers.
 -- Assumes nothing.
 use mathlib.Core.Path.{_∙_}
 use Rattle.sweep_reader.specs.Shown.{rateFed}

@@ -1,4 +1,4 @@
--- `reader_sweep::shown::reader`: the rate, the time code, the sequence, the list.
+-- `sweep_reader::shown::reader`: the rate, the time code, the sequence, the list.
 -- Assumes nothing.
 use mathlib.Core.Path.{_∙_}
 use Rattle.sweep_reader.specs.Shown.{readerFed}

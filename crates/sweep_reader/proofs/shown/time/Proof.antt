@@ -1,4 +1,4 @@
--- `reader_sweep::shown::time`: whether it is there, and its six values.
+-- `sweep_reader::shown::time`: whether it is there, and its six values.
 -- Assumes nothing.
 use mathlib.Core.Path.{_∙_}
 use Rattle.sweep_reader.specs.Shown.{timeFed}

@@ -1,4 +1,4 @@
--- `services_sweep::digest::fed`: the step of its block.
+-- `sweep_services::digest::fed`: the step of its block.
 -- Assumes nothing.
 use borrow.Author.Needs.{needs}
 use Rattle.sweep_services.proofs.digest.fed.Statement.{statement}

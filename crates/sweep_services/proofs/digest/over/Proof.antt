@@ -1,4 +1,4 @@
--- `services_sweep::digest::over`: after n turns the digest is fed n times.
+-- `sweep_services::digest::over`: after n turns the digest is fed n times.
 -- Assumes nothing.
 use mathlib.Core.Path.{_≡_, _∙_, ap}
 use Prim.Native.Nat.{_≤_, _-_}

@@ -1,4 +1,4 @@
--- `services_sweep::digest::second_byte`: the section as long as its count says.
+-- `sweep_services::digest::second_byte`: the section as long as its count says.
 -- Assumes nothing.
 use borrow.Author.Needs.{needs}
 use Rattle.sweep_services.proofs.digest.second_byte.Statement.{statement}

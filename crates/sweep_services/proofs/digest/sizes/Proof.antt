@@ -1,4 +1,4 @@
--- `services_sweep::digest::sizes`: the section's own size, and nine more.
+-- `sweep_services::digest::sizes`: the section's own size, and nine more.
 -- Assumes nothing.
 use borrow.Author.Needs.{needs}
 use Rattle.sweep_services.proofs.digest.sizes.Statement.{statement}

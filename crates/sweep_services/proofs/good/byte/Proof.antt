@@ -1,4 +1,4 @@
--- `services_sweep::good::byte`: the two bytes of the section's own, an entry's, or one behind.
+-- `sweep_services::good::byte`: the two bytes of the section's own, an entry's, or one behind.
 -- Assumes nothing.
 use mathlib.Core.Path.{_∙_}
 use Rattle.sweep_services.proofs.Steps.{byte-first, byte-second, byte-inside, byte-behind}

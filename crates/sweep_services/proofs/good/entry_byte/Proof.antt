@@ -1,4 +1,4 @@
--- `services_sweep::good::entry_byte`: one of six places, or the last.
+-- `sweep_services::good::entry_byte`: one of six places, or the last.
 -- Assumes nothing.
 use Rattle.sweep_services.proofs.Steps.{entry-at, entry-last}
 use native.Mathlib.Omega.{arith}

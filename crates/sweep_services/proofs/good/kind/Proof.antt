@@ -1,4 +1,4 @@
--- `services_sweep::good::kind`: a field, or a digital service.
+-- `sweep_services::good::kind`: a field, or a digital service.
 -- Assumes nothing.
 use borrow.Author.Tests.{eq-eqb, ne-eqb}
 use Rattle.sweep_services.specs.Good.{kindAt}

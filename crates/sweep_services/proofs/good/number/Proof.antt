@@ -1,4 +1,4 @@
--- `services_sweep::good::number`: a field names 0.
+-- `sweep_services::good::number`: a field names 0.
 -- Assumes nothing.
 use borrow.Author.Tests.{eq-eqb, ne-eqb}
 use Rattle.sweep_services.specs.Good.{numberAt}

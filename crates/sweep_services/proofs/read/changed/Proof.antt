@@ -1,4 +1,4 @@
--- `services_sweep::read::changed`: the good section, one byte of it set, and cut.
+-- `sweep_services::read::changed`: the good section, one byte of it set, and cut.
 -- Assumes nothing.
 use mathlib.Core.Path.{_∙_}
 use Rattle.sweep_services.specs.Sweep.{changedStep}

@@ -1,4 +1,4 @@
--- `services_sweep::read::cut`: the part that is lent is as long as its end says.
+-- `sweep_services::read::cut`: the part that is lent is as long as its end says.
 -- Assumes nothing.
 use mathlib.Core.Path.{sym}
 use lib.Seq.{length-take-le}

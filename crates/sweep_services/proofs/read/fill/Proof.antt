@@ -1,4 +1,4 @@
--- `services_sweep::read::fill`: after so many turns so many bytes are made.
+-- `sweep_services::read::fill`: after so many turns so many bytes are made.
 -- Assumes nothing.
 use mathlib.Core.Path.{_≡_, _∙_, ap}
 use Prim.Native.Nat.{_≤_, _-_}

@@ -1,4 +1,4 @@
--- `services_sweep::read::list_fed`: the flags, the count, the entries.
+-- `sweep_services::read::list_fed`: the flags, the count, the entries.
 -- Assumes nothing.
 use mathlib.Core.Path.{_∙_}
 use Rattle.sweep_services.specs.Sweep.{listFed}

@@ -1,4 +1,4 @@
--- `services_sweep::read::one`: the section's nine bytes.
+-- `sweep_services::read::one`: the section's nine bytes.
 -- Assumes nothing.
 use Rattle.sweep_services.specs.Sweep.{headerStep}
 use borrow.Author.Needs.{needs}

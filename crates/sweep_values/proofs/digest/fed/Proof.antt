@@ -1,4 +1,4 @@
--- `values_sweep::digest::fed`: the step of its block.
+-- `sweep_values::digest::fed`: the step of its block.
 -- Assumes nothing.
 use borrow.Author.Needs.{needs}
 use Rattle.sweep_values.proofs.digest.fed.Statement.{statement}

@@ -1,4 +1,4 @@
--- `values_sweep::digest::sequence_fed`: the two bytes, the checksum and the sequence, all of the bytes that were made.
+-- `sweep_values::digest::sequence_fed`: the two bytes, the checksum and the sequence, all of the bytes that were made.
 -- Assumes nothing.
 use mathlib.Core.Path.{_∙_}
 use Rattle.sweep_values.proofs.Steps.{sequence-done}

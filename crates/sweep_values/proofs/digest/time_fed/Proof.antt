@@ -1,4 +1,4 @@
--- `values_sweep::digest::time_fed`: the answer, and the bytes where it is 0.
+-- `sweep_values::digest::time_fed`: the answer, and the bytes where it is 0.
 -- Assumes nothing.
 use mathlib.Core.Path.{_∙_, sym}
 use borrow.Author.Tests.{not-true, not-false}

@@ -1,4 +1,4 @@
--- `times::time_code::digits` is rule 5's digits at every number of tens bits up to three.
+-- `values_time::time::digits` is rule 5's digits at every number of tens bits up to three.
 -- Assumes nothing.
 use Prim.Native.Nat.{_/_}
 use native.Mathlib.Omega.{arith}

@@ -1,4 +1,4 @@
--- `packing::writing::flags`: what is held, and the flags of a list that is.
+-- `write_bytes::packet_writing::flags`: what is held, and the flags of a list that is.
 -- Assumes nothing.
 use borrow.Author.Tests.{not-true, not-false}
 use Rattle.write_bytes.proofs.Parts.{flags-with, flags-without}

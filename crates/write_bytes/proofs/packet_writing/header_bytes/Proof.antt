@@ -1,4 +1,4 @@
--- `packing::writing::header_bytes`: the seven bytes of the header.
+-- `write_bytes::packet_writing::header_bytes`: the seven bytes of the header.
 -- Assumes nothing.
 use borrow.Author.Needs.{needs}
 use Rattle.write_bytes.proofs.packet_writing.header_bytes.Statement.{statement}

@@ -1,4 +1,4 @@
--- `packing::writing::put_captions`: two bytes, and the captions behind them.
+-- `write_bytes::packet_writing::put_captions`: two bytes, and the captions behind them.
 -- Assumes nothing.
 use mathlib.Core.Path.{_∙_, refl}
 use Rattle.write_bytes.proofs.Parts.{captions-put}

@@ -1,4 +1,4 @@
--- `packing::writing::put_footer`: the id and the sequence, and the checksum of all before it.
+-- `write_bytes::packet_writing::put_footer`: the id and the sequence, and the checksum of all before it.
 -- Assumes nothing.
 use mathlib.Core.Path.{_∙_}
 use mathlib.Core.Path.{sym}

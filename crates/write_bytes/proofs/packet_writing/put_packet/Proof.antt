@@ -1,4 +1,4 @@
--- `packing::writing::put_packet`: header, time code, captions, services and footer, one behind the other.
+-- `write_bytes::packet_writing::put_packet`: header, time code, captions, services and footer, one behind the other.
 -- Assumes nothing.
 use mathlib.Core.List.{List}
 use mathlib.Core.Path.{_∙_, ap, ap₂}

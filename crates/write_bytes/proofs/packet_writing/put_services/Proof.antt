@@ -1,4 +1,4 @@
--- `packing::writing::put_services`: the section from its place on, or nothing.
+-- `write_bytes::packet_writing::put_services`: the section from its place on, or nothing.
 -- Assumes nothing.
 use native.Mathlib.Omega.{arith}
 use borrow.Author.Tests.{not-true, not-false}

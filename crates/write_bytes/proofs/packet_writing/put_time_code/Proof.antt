@@ -1,4 +1,4 @@
--- `packing::writing::put_time_code`: the id and the four bytes, or nothing.
+-- `write_bytes::packet_writing::put_time_code`: the id and the four bytes, or nothing.
 -- Assumes nothing.
 use mathlib.Core.Path.{_∙_}
 use borrow.Author.Tests.{not-true, not-false}

@@ -1,4 +1,4 @@
--- `packing::write_packet`: the checks of the values, room, then the packet.
+-- `write_bytes::write_packet`: the checks of the values, room, then the packet.
 -- Assumes nothing.
 use mathlib.Core.Path.{_∙_, sym}
 use borrow.Author.Tests.{not-true, not-false}

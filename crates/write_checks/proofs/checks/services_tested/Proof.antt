@@ -1,4 +1,4 @@
--- `packet_checks::checks::services_tested`: done where no list is held, else the list's own answer, and its section's length.
+-- `write_checks::checks::services_tested`: done where no list is held, else the list's own answer, and its section's length.
 -- Assumes nothing.
 use mathlib.Core.Path.{_∙_, sym}
 use borrow.Author.Tests.{not-true, not-false}

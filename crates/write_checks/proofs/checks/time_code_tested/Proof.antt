@@ -1,4 +1,4 @@
--- `packet_checks::checks::time_code_tested`: done where no time code is held, else what making its bytes answers, and its size.
+-- `write_checks::checks::time_code_tested`: done where no time code is held, else what making its bytes answers, and its size.
 -- Assumes nothing.
 use mathlib.Core.Path.{_∙_, sym}
 use borrow.Author.Tests.{not-true, not-false}

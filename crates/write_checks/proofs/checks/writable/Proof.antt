@@ -1,4 +1,4 @@
--- `packet_checks::writable`: rate, captions, time code, services, and the length.
+-- `write_checks::writable`: rate, captions, time code, services, and the length.
 -- Assumes nothing.
 use mathlib.Core.Path.{_∙_, sym}
 use native.Mathlib.Omega.{arith}

@@ -1,4 +1,4 @@
--- `header::Header::parse` is rules 2 and 3, and then the values of rules 3 and 4.
+-- `read_header::Header::parse` is rules 2 and 3, and then the values of rules 3 and 4.
 -- Assumes nothing.
 use mathlib.Core.Path.{_∙_}
 use native.Mathlib.Omega.{arith}

@@ -1,4 +1,4 @@
--- `checked::Checked::parse`: the sections one after the other, each where the one before it ends.
+-- `read_packet::Checked::parse`: the sections one after the other, each where the one before it ends.
 -- Assumes nothing.
 use mathlib.Core.Bool.{true}
 use mathlib.Core.List.{List}

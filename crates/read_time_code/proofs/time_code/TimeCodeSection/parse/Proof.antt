@@ -1,4 +1,4 @@
--- `time_section::TimeCodeSection::parse` is rule 5, test by test.
+-- `read_time_code::TimeCodeSection::parse` is rule 5, test by test.
 -- Assumes nothing.
 use mathlib.Core.Path.{_∙_, sym}
 use native.Mathlib.Omega.{arith}

@@ -1,4 +1,4 @@
--- `svc_entries::EntriesRead::refused`: the answer beside the fillers.
+-- `service_entries::EntriesRead::refused`: the answer beside the fillers.
 -- Assumes nothing.
 use borrow.Author.Needs.{needs}
 use Rattle.service_entries.proofs.entries.EntriesRead.refused.Statement.{statement}

@@ -1,4 +1,4 @@
--- `entries::ServiceEntry::bytes` puts the six bytes together.
+-- `service_entry::ServiceEntry::bytes` puts the six bytes together.
 -- Assumes nothing.
 use borrow.Author.Needs.{needs}
 use Rattle.service_entry.proofs.entry.ServiceEntry.bytes.Statement.{statement}

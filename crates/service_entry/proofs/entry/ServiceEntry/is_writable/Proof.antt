@@ -1,4 +1,4 @@
--- `entries::ServiceEntry::is_writable`: every field, and the digital numbers 1 to 63.
+-- `service_entry::ServiceEntry::is_writable`: every field, and the digital numbers 1 to 63.
 -- Assumes nothing.
 use borrow.Author.Tests.{le-leb, lt-leb}
 use borrow.Author.Needs.{needs}

@@ -1,4 +1,4 @@
--- `entries::ServiceEntry::of_bytes`: the language as it stands, and what bytes 3 and 4 name.
+-- `service_entry::ServiceEntry::of_bytes`: the language as it stands, and what bytes 3 and 4 name.
 -- Assumes nothing.
 use borrow.Author.Needs.{needs}
 use Rattle.service_entry.proofs.entry.ServiceEntry.of_bytes.Statement.{statement}

@@ -1,4 +1,4 @@
--- `entries::ServiceEntry::parse` is rules E1 to E4: each return is where a test is the first that fails, or where none does.
+-- `service_entry::ServiceEntry::parse` is rules E1 to E4: each return is where a test is the first that fails, or where none does.
 -- Assumes nothing.
 use mathlib.Core.Path.{_∙_}
 use mathlib.Core.Logic.{inl, inr, ⊎-elim}

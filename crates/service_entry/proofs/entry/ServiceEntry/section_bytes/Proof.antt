@@ -1,4 +1,4 @@
--- `entries::ServiceEntry::section_bytes` puts the header byte in front.
+-- `service_entry::ServiceEntry::section_bytes` puts the header byte in front.
 -- Assumes nothing.
 use borrow.Author.Needs.{needs}
 use Rattle.service_entry.proofs.entry.ServiceEntry.section_bytes.Statement.{statement}

@@ -1,4 +1,4 @@
--- `entries::ServiceEntry::write_into`: value, room, then the six bytes.
+-- `service_entry::ServiceEntry::write_into`: value, room, then the six bytes.
 -- Assumes nothing.
 use mathlib.Core.Path.{_∙_, sym}
 use native.Mathlib.Omega.{arith}

@@ -1,4 +1,4 @@
--- `services::MaybeServiceInfo::absent`: the empty list, not there.
+-- `service_list::MaybeServiceInfo::absent`: the empty list, not there.
 -- Assumes nothing.
 use borrow.Author.Needs.{needs}
 use Rattle.service_list.proofs.list.MaybeServiceInfo.absent.Statement.{statement}

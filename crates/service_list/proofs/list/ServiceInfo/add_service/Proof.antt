@@ -1,4 +1,4 @@
--- `services::ServiceInfo::add_service`: a full list comes back; else the entry stands behind the others.
+-- `service_list::ServiceInfo::add_service`: a full list comes back; else the entry stands behind the others.
 -- Assumes nothing.
 use borrow.Author.Tests.{lt-ltb, le-ltb}
 use borrow.Author.Needs.{needs}

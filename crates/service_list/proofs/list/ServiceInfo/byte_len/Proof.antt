@@ -1,4 +1,4 @@
--- `services::ServiceInfo::byte_len`: the length, where the count is a list's.
+-- `service_list::ServiceInfo::byte_len`: the length, where the count is a list's.
 -- Assumes nothing.
 use borrow.Author.Tests.{le-leb, lt-leb}
 use borrow.Author.Needs.{needs}

@@ -1,4 +1,4 @@
--- `services::ServiceInfo::clear_services`: the filler in all places, the flags as they were.
+-- `service_list::ServiceInfo::clear_services`: the filler in all places, the flags as they were.
 -- Assumes nothing.
 use borrow.Author.Needs.{needs}
 use Rattle.service_list.proofs.list.ServiceInfo.clear_services.Statement.{statement}

@@ -1,4 +1,4 @@
--- `services::ServiceInfo::default`: no flag, and the filler in all places.
+-- `service_list::ServiceInfo::default`: no flag, and the filler in all places.
 -- Assumes nothing.
 use borrow.Author.Needs.{needs}
 use Rattle.service_list.proofs.list.ServiceInfo.default.Statement.{statement}

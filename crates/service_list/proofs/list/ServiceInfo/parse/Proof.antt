@@ -1,4 +1,4 @@
--- `services::ServiceInfo::parse`: the entries are refused, or they are the list's beside its flags.
+-- `service_list::ServiceInfo::parse`: the entries are refused, or they are the list's beside its flags.
 -- Assumes nothing.
 use mathlib.Core.Path.{_∙_, sym}
 use native.Mathlib.Omega.{arith}

@@ -1,4 +1,4 @@
--- `services::ServiceInfo::put_section`: the two bytes, and the entries behind them.
+-- `service_list::ServiceInfo::put_section`: the two bytes, and the entries behind them.
 -- Assumes nothing.
 use mathlib.Core.Path.{_∙_}
 use native.Mathlib.Omega.{arith}

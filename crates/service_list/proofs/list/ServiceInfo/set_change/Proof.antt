@@ -1,4 +1,4 @@
--- `services::ServiceInfo::set_change`: true sets start too.
+-- `service_list::ServiceInfo::set_change`: true sets start too.
 -- Assumes nothing.
 use Rattle.service_list.proofs.list.ServiceInfo.set_change.Statement.{statement}
 use Rattle.service_list.proofs.list.ServiceInfo.set_change.Tie as tie

@@ -1,4 +1,4 @@
--- `services::ServiceInfo::with`: three flags and a count in one byte.
+-- `service_list::ServiceInfo::with`: three flags and a count in one byte.
 -- Assumes nothing.
 use Rattle.service_list.proofs.SectionReads.{with-is}
 use borrow.Author.Needs.{needs}

@@ -1,4 +1,4 @@
--- `services::ServiceInfo::writable`: the count, then the entries.
+-- `service_list::ServiceInfo::writable`: the count, then the entries.
 -- Assumes nothing.
 use mathlib.Core.Path.{_∙_, sym}
 use native.Mathlib.Omega.{arith}

@@ -1,4 +1,4 @@
--- `services::ServiceInfo::write_into`: count and entries, room, then the section.
+-- `service_list::ServiceInfo::write_into`: count and entries, room, then the section.
 -- Assumes nothing.
 use mathlib.Core.Path.{_∙_, sym}
 use borrow.Author.Tests.{not-true, not-false}

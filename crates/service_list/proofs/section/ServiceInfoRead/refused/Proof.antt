@@ -1,4 +1,4 @@
--- `services::ServiceInfoRead::refused`: the answer beside the empty list.
+-- `service_list::ServiceInfoRead::refused`: the answer beside the empty list.
 -- Assumes nothing.
 use borrow.Author.Needs.{needs}
 use Rattle.service_list.proofs.section.ServiceInfoRead.refused.Statement.{statement}

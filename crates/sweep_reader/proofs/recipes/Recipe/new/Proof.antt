@@ -1,4 +1,4 @@
--- `reader_sweep::Recipe::new`: the row of its number.
+-- `sweep_reader::Recipe::new`: the row of its number.
 -- Assumes nothing.
 use mathlib.Core.Path.{_∙_}
 use Rattle.sweep_reader.proofs.Rows.{over-first, over-next, row-at, row-last}

@@ -1,4 +1,4 @@
--- `times::TimeCode::bytes` puts fixed bits, flags and digits together.
+-- `values_time::TimeCode::bytes` puts fixed bits, flags and digits together.
 -- Assumes nothing.
 use borrow.Author.Needs.{needs}
 use Rattle.values_time.proofs.time.TimeCode.bytes.Statement.{statement}

@@ -1,4 +1,4 @@
--- `times::TimeCode::parse` is rule 5: each return is where a test is the first that fails, or where none does.
+-- `values_time::TimeCode::parse` is rule 5: each return is where a test is the first that fails, or where none does.
 -- Assumes nothing.
 use Rattle.values_time.proofs.TimeReads.{hours-wrong, minutes-wrong, frames-wrong, all-right}
 use borrow.Author.Needs.{needs}

@@ -1,4 +1,4 @@
--- `times::TimeCode::to_bytes`: each return is where a value is the first out of range, or where none is.
+-- `values_time::TimeCode::to_bytes`: each return is where a value is the first out of range, or where none is.
 -- Assumes nothing.
 use Rattle.values_time.proofs.TimeWrites.{hours-over, minutes-over, seconds-over, frames-over, in-range}
 use native.Mathlib.Omega.{arith}

@@ -1,4 +1,4 @@
--- `times::TimeCode::value` reads each byte with its own number of tens bits.
+-- `values_time::TimeCode::value` reads each byte with its own number of tens bits.
 -- Assumes nothing.
 use borrow.Author.Needs.{needs}
 use Rattle.values_time.proofs.time.TimeCode.value.Statement.{statement}
