@@ -16,8 +16,8 @@ unfoldable pub rateFed : ℕ → MaybeFramerate → ℕ
 rateFed digest m =
     fourFed (fourFed (fed (flagFed digest (m .present)) (m .framerate .id)) (m .framerate .numer)) (m .framerate .denom)
 
-unfoldable pub timeFed : ℕ → MaybeTimeCode → ℕ
-timeFed digest m =
+unfoldable pub timeCodeFed : ℕ → MaybeTimeCode → ℕ
+timeCodeFed digest m =
     let t = m .«time_code» in
     flagFed
     (flagFed (fed (fed (fed (fed (flagFed digest (m .present)) (t .hours)) (t .minutes)) (t .seconds)) (t .frames)) (t .field))
@@ -33,4 +33,4 @@ listFed digest m =
 
 unfoldable pub readerFed : ℕ → CDPParser → ℕ
 readerFed digest s =
-    listFed (twoFed (timeFed (rateFed digest (s .framerate)) (s .«time_code»)) (s .sequence)) (s .«service_info»)
+    listFed (twoFed (timeCodeFed (rateFed digest (s .framerate)) (s .«time_code»)) (s .sequence)) (s .«service_info»)

@@ -38,7 +38,7 @@ fn four(digest: u64, n: u64) -> u64
 }
 
 fn time(digest: u64, shown: MaybeTimeCode) -> u64
-    ensures { λ r. ⌜ r ≡ Shown.timeFed digest shown ⌝ }
+    ensures { λ r. ⌜ r ≡ Shown.timeCodeFed digest shown ⌝ }
 {
     let time = shown.time_code;
     let present = flag_fed(digest, shown.present);

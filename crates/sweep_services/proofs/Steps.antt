@@ -11,7 +11,7 @@ use Rattle.service_entry.specs.Entry.{entryRead}
 use Rattle.service_entry.specs.declared.entry.ServiceEntryRead.{ServiceEntryRead}
 use Rattle.service_list.specs.declared.section.ServiceInfoRead.{ServiceInfoRead}
 use Rattle.sweep_services.specs.Good.{entryByte, entryStart, goodByte, goodSize, secondByte}
-use Rattle.sweep_services.specs.Sweep.{answerFed, entryAt, entryStep, listFed, sectionFed}
+use Rattle.sweep_services.specs.Sweep.{lowBytesFed, englishEntry, entryStep, listFed, sectionFed}
 
 pub entry-at : (k place n : ℕ) → place ≡ n → getD (entryStart k) n 0xFF ≡ entryByte k place
 unfolding entryByte
@@ -39,7 +39,7 @@ module _ (count place : ℕ) where
     unfolding goodByte
     byte-behind g h = simp (ne-eqb _ _ other, ne-eqb _ _ g, le-ltb _ _ h)
 
-module _ (kind digest n : ℕ) (r : ServiceEntryRead) (read : r ≡ entryRead (entryAt kind n)) where
+module _ (kind digest n : ℕ) (r : ServiceEntryRead) (read : r ≡ entryRead (englishEntry kind n)) where
   pub entry-refused : eqb (r .answer .number) 0 ≡ false → fed digest (r .answer .number) ≡ entryStep kind digest n
   unfolding entryStep
   entry-refused h = rw (← read, h)
@@ -49,10 +49,10 @@ module _ (kind digest n : ℕ) (r : ServiceEntryRead) (read : r ≡ entryRead (e
   entry-done h = rw (← read, h)
 
 module _ (digest : ℕ) (r : ServiceInfoRead) where
-  pub section-refused : eqb (r .answer .number) 0 ≡ false → answerFed digest (r .answer) ≡ sectionFed digest r
+  pub section-refused : eqb (r .answer .number) 0 ≡ false → lowBytesFed digest (r .answer) ≡ sectionFed digest r
   unfolding sectionFed
   section-refused h = rw h
 
-  pub section-done : eqb (r .answer .number) 0 ≡ true → listFed (answerFed digest (r .answer)) (r .list) ≡ sectionFed digest r
+  pub section-done : eqb (r .answer .number) 0 ≡ true → listFed (lowBytesFed digest (r .answer)) (r .list) ≡ sectionFed digest r
   unfolding sectionFed
   section-done h = rw h

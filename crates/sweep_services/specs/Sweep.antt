@@ -22,8 +22,8 @@ readFed digest r =
     cond (eqb (r .answer .number) 0) (entryFed answered (r .entry)) answered
 
 -- the three numbers of an answer, a byte of each
-abbrev pub answerFed : ℕ → Answer → ℕ
-answerFed digest a = fed (fed (fed digest (a .number)) (a .first % 256)) (a .second % 256)
+abbrev pub lowBytesFed : ℕ → Answer → ℕ
+lowBytesFed digest a = fed (fed (fed digest (a .number)) (a .first % 256)) (a .second % 256)
 
 -- the flags and the count, then as many entries; no list has more than its places
 unfoldable pub listFed : ℕ → ServiceInfo → ℕ
@@ -34,12 +34,12 @@ listFed digest l =
 -- what reading a section gives: the answer and, where it is 0, the list
 unfoldable pub sectionFed : ℕ → ServiceInfoRead → ℕ
 sectionFed digest r =
-    let answered = answerFed digest (r .answer) in
+    let answered = lowBytesFed digest (r .answer) in
     cond (eqb (r .answer .number) 0) (listFed answered (r .list)) answered
 
 -- an entry in English with these three bytes behind the language
-abbrev pub entryAt : ℕ → ℕ → List ℕ
-entryAt kind lastTwo = 0x65 ∷ 0x6E ∷ 0x67 ∷ kind % 256 ∷ lastTwo / 256 % 256 ∷ lastTwo % 256 ∷ []
+abbrev pub englishEntry : ℕ → ℕ → List ℕ
+englishEntry kind lastTwo = 0x65 ∷ 0x6E ∷ 0x67 ∷ kind % 256 ∷ lastTwo / 256 % 256 ∷ lastTwo % 256 ∷ []
 
 -- a section of one entry
 abbrev pub oneEntry : ℕ → ℕ → List ℕ
@@ -51,7 +51,7 @@ changedBytes count size place byte = take (size % 128) (set (goodBytes count 128
 
 -- one step of a digest
 unfoldable pub entryStep : ℕ → ℕ → ℕ → ℕ
-entryStep kind digest n = readFed digest (entryRead (entryAt kind n))
+entryStep kind digest n = readFed digest (entryRead (englishEntry kind n))
 
 unfoldable pub headerStep : ℕ → ℕ → ℕ → ℕ
 headerStep header digest n = sectionFed digest (sectionRead (oneEntry header n))
@@ -59,27 +59,27 @@ headerStep header digest n = sectionFed digest (sectionRead (oneEntry header n))
 unfoldable pub changedStep : ℕ → ℕ → ℕ → ℕ → ℕ → ℕ
 changedStep digest count size place byte = sectionFed digest (sectionRead (changedBytes count size place byte))
 
-abbrev pub stepOf : Block → ℕ → ℕ → ℕ
-stepOf (Entries kind) digest n = entryStep kind digest n
-stepOf (Headers header) digest n = headerStep header digest n
-stepOf (Place count place) digest n = changedStep digest count (goodSize count) place n
-stepOf (Sizes count) digest n = changedStep digest count n 0 0x73
+abbrev pub sectionStep : Block → ℕ → ℕ → ℕ
+sectionStep (Entries kind) digest n = entryStep kind digest n
+sectionStep (Headers header) digest n = headerStep header digest n
+sectionStep (Place count place) digest n = changedStep digest count (goodSize count) place n
+sectionStep (Sizes count) digest n = changedStep digest count n 0 0x73
 
 -- every byte 4 and byte 5 of an entry with this byte 3
 abbrev pub entriesDigest : ℕ → ℕ
-entriesDigest kind = swept (stepOf (Entries kind)) 65536
+entriesDigest kind = swept (sectionStep (Entries kind)) 65536
 
 -- every byte 3 of an entry behind this header byte
 abbrev pub headersDigest : ℕ → ℕ
-headersDigest header = swept (stepOf (Headers header)) 256
+headersDigest header = swept (sectionStep (Headers header)) 256
 
 -- every value of one byte of a good section
 abbrev pub placeDigest : ℕ → ℕ → ℕ
-placeDigest count place = swept (stepOf (Place count place)) 256
+placeDigest count place = swept (sectionStep (Place count place)) 256
 
 -- every size of a good section, up to eight zeros behind it
 abbrev pub sizesDigest : ℕ → ℕ
-sizesDigest count = swept (stepOf (Sizes count)) (goodSize count + 9)
+sizesDigest count = swept (sectionStep (Sizes count)) (goodSize count + 9)
 
 -- one byte 1 with as many good entries as it counts
 abbrev pub secondByteDigest : ℕ → ℕ

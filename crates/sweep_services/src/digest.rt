@@ -49,7 +49,7 @@ pub fn second_byte(byte: u64) -> u64
 }
 
 fn over(block: Block, count: u64) -> u64
-    ensures { λ r. ⌜ r ≡ swept (Sweep.stepOf block) count ⌝ }
+    ensures { λ r. ⌜ r ≡ swept (Sweep.sectionStep block) count ⌝ }
 {
     let mut digest = 0;
     for n in 0..count {
@@ -59,7 +59,7 @@ fn over(block: Block, count: u64) -> u64
 }
 
 fn fed(block: Block, digest: u64, n: u64) -> u64
-    ensures { λ r. ⌜ r ≡ Sweep.stepOf block digest n ⌝ }
+    ensures { λ r. ⌜ r ≡ Sweep.sectionStep block digest n ⌝ }
 {
     match block {
         Block::Entries(kind) => read::entry(digest, kind, n),

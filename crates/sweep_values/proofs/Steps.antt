@@ -9,17 +9,17 @@ use Rattle.values.specs.Sequence.{sequenceBytes}
 use Rattle.values_time.specs.Time.{timeWritten}
 use Rattle.report.specs.Digest.{fed, allFed}
 use Rattle.values_time.specs.declared.time.TimeCodeWritten.{TimeCodeWritten}
-use Rattle.sweep_values.specs.Sweep.{timeAt, timeFed, sequenceAt, sequenceFed, bytesFed}
+use Rattle.sweep_values.specs.Sweep.{nthTime, nthTimeFed, nthSequence, nthSequenceFed, bytesFed}
 
-module _ (hours digest n : ℕ) (w : TimeCodeWritten) (written : w ≡ timeWritten (timeAt hours n)) where
-  pub time-refused : eqb (w .answer .number) 0 ≡ false → fed digest (w .answer .number) ≡ timeFed hours digest n
-  unfolding timeFed
+module _ (hours digest n : ℕ) (w : TimeCodeWritten) (written : w ≡ timeWritten (nthTime hours n)) where
+  pub time-refused : eqb (w .answer .number) 0 ≡ false → fed digest (w .answer .number) ≡ nthTimeFed hours digest n
+  unfolding nthTimeFed
   time-refused h = rw (← written, h)
 
-  pub time-done : eqb (w .answer .number) 0 ≡ true → allFed (fed digest (w .answer .number)) (w .bytes) ≡ timeFed hours digest n
-  unfolding timeFed
+  pub time-done : eqb (w .answer .number) 0 ≡ true → allFed (fed digest (w .answer .number)) (w .bytes) ≡ nthTimeFed hours digest n
+  unfolding nthTimeFed
   time-done h = rw (← written, h)
 
-pub sequence-done : (high digest low : ℕ) (made : List ℕ) → made ≡ sequenceBytes (sequenceAt high low) → bytesFed digest made ≡ sequenceFed high digest low
-unfolding sequenceFed
+pub sequence-done : (high digest low : ℕ) (made : List ℕ) → made ≡ sequenceBytes (nthSequence high low) → bytesFed digest made ≡ nthSequenceFed high digest low
+unfolding nthSequenceFed
 sequence-done high digest low made e = rw e

@@ -14,8 +14,8 @@ use Rattle.sweep_values.specs.declared.digest.Block.{Block}
 use Rattle.sweep_values.specs.declared.digest.Block.the-variants.{Times, Sequences}
 
 -- the nth time of an hour: drop frame changes first, then the field, 41 frames, 81 seconds, 81 minutes
-abbrev pub timeAt : ℕ → ℕ → TimeCode
-timeAt hours n =
+abbrev pub nthTime : ℕ → ℕ → TimeCode
+nthTime hours n =
     timeCode (hours % 256) (n / 13284 % 81) (n / 164 % 81) (n / 4 % 41) (eqb (n / 2 % 2) 1) (eqb (n % 2) 1)
 
 -- what is answered and, where it is done, the four bytes
@@ -24,12 +24,12 @@ writtenFed digest w =
     let answered = fed digest (w .answer .number) in
     cond (eqb (w .answer .number) 0) (allFed answered (w .bytes)) answered
 
-unfoldable pub timeFed : ℕ → ℕ → ℕ → ℕ
-timeFed hours digest n = writtenFed digest (timeWritten (timeAt hours n))
+unfoldable pub nthTimeFed : ℕ → ℕ → ℕ → ℕ
+nthTimeFed hours digest n = writtenFed digest (timeWritten (nthTime hours n))
 
 -- the sequence of a high byte and a low one
-abbrev pub sequenceAt : ℕ → ℕ → ℕ
-sequenceAt high low = high % 256 * 256 + low % 256
+abbrev pub nthSequence : ℕ → ℕ → ℕ
+nthSequence high low = high % 256 * 256 + low % 256
 
 -- the smallest packet that has the sequence of these two bytes, without its checksum
 abbrev pub smallest : List ℕ → List ℕ
@@ -41,18 +41,18 @@ abbrev pub bytesFed : ℕ → List ℕ → ℕ
 bytesFed digest made =
     twoFed (fed (allFed digest made) (negative (total (smallest made)))) (sequenceOf (byte made 0) (byte made 1))
 
-unfoldable pub sequenceFed : ℕ → ℕ → ℕ → ℕ
-sequenceFed high digest low = bytesFed digest (sequenceBytes (sequenceAt high low))
+unfoldable pub nthSequenceFed : ℕ → ℕ → ℕ → ℕ
+nthSequenceFed high digest low = bytesFed digest (sequenceBytes (nthSequence high low))
 
 -- the digest of an hour: 81 minutes, 81 seconds and 41 frames, one past each limit included, with field and drop frame
 abbrev pub timesDigest : ℕ → ℕ
-timesDigest hours = swept (timeFed hours) 1076004
+timesDigest hours = swept (nthTimeFed hours) 1076004
 
 -- the digest of a high byte
 abbrev pub sequencesDigest : ℕ → ℕ
-sequencesDigest high = swept (sequenceFed high) 256
+sequencesDigest high = swept (nthSequenceFed high) 256
 
 -- what a digest is fed at each step
-abbrev pub stepOf : Block → ℕ → ℕ → ℕ → ℕ
-stepOf Times = timeFed
-stepOf Sequences = sequenceFed
+abbrev pub valueStep : Block → ℕ → ℕ → ℕ → ℕ
+valueStep Times = nthTimeFed
+valueStep Sequences = nthSequenceFed

@@ -30,7 +30,7 @@ pub fn sequences(high: u64) -> u64
 }
 
 fn over(block: Block, first: u64, count: u64) -> u64
-    ensures { λ r. ⌜ r ≡ swept (Sweep.stepOf block first) count ⌝ }
+    ensures { λ r. ⌜ r ≡ swept (Sweep.valueStep block first) count ⌝ }
 {
     let mut digest = 0;
     for n in 0..count {
@@ -40,7 +40,7 @@ fn over(block: Block, first: u64, count: u64) -> u64
 }
 
 fn fed(block: Block, digest: u64, first: u64, n: u64) -> u64
-    ensures { λ r. ⌜ r ≡ Sweep.stepOf block first digest n ⌝ }
+    ensures { λ r. ⌜ r ≡ Sweep.valueStep block first digest n ⌝ }
 {
     match block {
         Block::Times => time_fed(digest, first, n),
@@ -49,7 +49,7 @@ fn fed(block: Block, digest: u64, first: u64, n: u64) -> u64
 }
 
 fn time_fed(digest: u64, hours: u64, n: u64) -> u64
-    ensures { λ r. ⌜ r ≡ Sweep.timeFed hours digest n ⌝ }
+    ensures { λ r. ⌜ r ≡ Sweep.nthTimeFed hours digest n ⌝ }
 {
     let time = TimeCode::new(
         (hours % 256) as u8,
@@ -69,7 +69,7 @@ fn time_fed(digest: u64, hours: u64, n: u64) -> u64
 }
 
 fn sequence_fed(digest: u64, high: u64, low: u64) -> u64
-    ensures { λ r. ⌜ r ≡ Sweep.sequenceFed high digest low ⌝ }
+    ensures { λ r. ⌜ r ≡ Sweep.nthSequenceFed high digest low ⌝ }
 {
     let made = values::sequence_bytes((high % 256 * 256 + low % 256) as u16);
     let packet = [

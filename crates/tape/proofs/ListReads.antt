@@ -13,7 +13,7 @@ use Rattle.service_entry.specs.declared.entry.ServiceEntry.{ServiceEntry}
 use Rattle.service_entries.proofs.SectionEntries.{filled-more}
 use Rattle.service_entries.specs.Entries.{filled}
 use Rattle.service_list.specs.declared.list.ServiceInfo.{ServiceInfo}
-use Rattle.tape.specs.Lists.{counted, entriesAt, entriesFrom, entryAt, heldBy, lastOf, listOf, listWord}
+use Rattle.tape.specs.Lists.{withOneMore, entriesAt, entriesFrom, entryAt, heldBy, lastOf, listCounting, listWord}
 use Rattle.tape.specs.Words.{markAt, nowhere}
 use Rattle.tape.specs.declared.lists.EntryWord.{EntryWord}
 
@@ -31,8 +31,8 @@ module _ (start change complete : Bool) where
       rw (all, more) (filled-more es e room)
   places-more es e false h = ap filled (sym (take-append-le 15 es (e ∷ []) (ltb-false _ _ h)))
 
-  counted-more : (es : List ServiceEntry) (e : ServiceEntry) → counted (listOf start change complete es) e ≡ listOf start change complete (es ++ e ∷ [])
-  unfolding counted listOf
+  counted-more : (es : List ServiceEntry) (e : ServiceEntry) → withOneMore (listCounting start change complete es) e ≡ listCounting start change complete (es ++ e ∷ [])
+  unfolding withOneMore listCounting
   counted-more es e =
       ap₂ (λ (s : List ServiceEntry) (n : ℕ). record { start = start; change = change; complete = complete; services = s; count = n })
       (places-more es e (ltb (length es) 15) refl) (longer es e)
@@ -42,7 +42,7 @@ pub record EntriesRead (line : List ℕ) (from : ℕ) (start change complete : B
   pub before : List ServiceEntry
   pub within : k ≤ length line
   pub few : length before ≡ k
-  pub held : l ≡ listOf start change complete before
+  pub held : l ≡ listCounting start change complete before
   pub all : heldBy (entriesFrom (length line) line from) ≡ before ++ heldBy (entriesFrom (length line - k) line at)
   pub place : lastOf from (entriesFrom (length line) line from) ≡ lastOf at (entriesFrom (length line - k) line at)
 
@@ -57,7 +57,7 @@ module _ (line : List ℕ) (at : ℕ) where
   unfolding entriesFrom
   entries-more n h = simp (ne-eqb _ _ h)
 
-pub entries-none : (line : List ℕ) (from : ℕ) (start change complete : Bool) (l : ServiceInfo) → l ≡ listOf start change complete []
+pub entries-none : (line : List ℕ) (from : ℕ) (start change complete : Bool) (l : ServiceInfo) → l ≡ listCounting start change complete []
     → EntriesRead line from start change complete l from 0
 entries-none line from start change complete l e =
     let same : length line - 0 ≡ length line = omega arith in
@@ -74,11 +74,11 @@ module _ {line : List ℕ} {from : ℕ} {start change complete : Bool} {l : Serv
     (so-far : EntriesRead line from start change complete l at k) where
   -- so many are counted
   pub entries-count : l .count ≡ k
-  unfolding listOf
+  unfolding listCounting
   entries-count = rw (so-far .held) (so-far .few)
 
   pub entries-next : (behind : ℕ) (word : EntryWord) (more : ServiceInfo) → k < length line → behind ≡ markAt line at 59 → (behind ≡ nowhere → ⊥)
-      → word ≡ entryAt line behind → more ≡ counted l (word .entry)
+      → word ≡ entryAt line behind → more ≡ withOneMore l (word .entry)
       → EntriesRead line from start change complete more (word .next) (k + 1)
   unfolding lastOf
   entries-next behind word more h b n w m =
@@ -90,7 +90,7 @@ module _ {line : List ℕ} {from : ℕ} {start change complete : Bool} {l : Serv
         before = so-far .before ++ word .entry ∷ [];
         within = omega arith;
         few = simp length-append (omega (arith, so-far .few));
-        held = m ∙ ap (λ (s : ServiceInfo). counted s (word .entry)) (so-far .held) ∙ counted-more start change complete (so-far .before) (word .entry);
+        held = m ∙ ap (λ (s : ServiceInfo). withOneMore s (word .entry)) (so-far .held) ∙ counted-more start change complete (so-far .before) (word .entry);
         all =
             so-far .all
             ∙ ap (λ (ws : List EntryWord). so-far .before ++ heldBy ws) step
@@ -103,7 +103,7 @@ module _ {line : List ℕ} {from : ℕ} {start change complete : Bool} {l : Serv
   entries-all none =
       let es : heldBy (entriesFrom (length line) line from) ≡ so-far .before =
       so-far .all ∙ ap (λ (ws : List EntryWord). so-far .before ++ heldBy ws) none ∙ append-nil (so-far .before) in
-      ap₂ listWord (so-far .held ∙ ap (listOf start change complete) (sym es)) (sym (so-far .place ∙ ap (lastOf at) none))
+      ap₂ listWord (so-far .held ∙ ap (listCounting start change complete) (sym es)) (sym (so-far .place ∙ ap (lastOf at) none))
 
   pub entries-stopped : (behind : ℕ) → behind ≡ markAt line at 59 → behind ≡ nowhere → listWord l at ≡ entriesAt line from start change complete
   entries-stopped behind b n = entries-all (entries-stop line at (length line - k) (rw b at n))

@@ -13,7 +13,7 @@ use lib.ListN.{length, set, take, drop, drop-of-length-le, length-set, List·get
 use lib.Seq.{drop-cons, take-suc-set, drop-set-lt}
 use Rattle.basis.proofs.Puts.{over-nil}
 use Rattle.basis.specs.Bytes.{byte, over}
-use Rattle.tape.specs.Words.{byteAt, byteWord, bytesAt, bytesIn, bytesWord, capped, decimal, digitOf, digitsOf, flagAt, flagWord, markAt, nowhere, numberAt, numberOf, numberWord, pairsAt, pairsFrom}
+use Rattle.tape.specs.Words.{byteAt, byteWord, bytesAt, bytesIn, bytesWord, capped, decimal, digitOf, digitsOf, flagAt, flagWord, markAt, nowhere, numberAt, numberOfDigits, numberWord, pairsAt, pairsFrom}
 use Rattle.tape.specs.declared.words.ByteWord.{ByteWord}
 use Rattle.tape.specs.declared.words.BytesWord.{BytesWord}
 use Rattle.tape.specs.declared.words.NumberWord.{NumberWord}
@@ -171,19 +171,19 @@ module _ {line : List ℕ} {from value at : ℕ} (so-far : DigitsRead line from 
 
 -- a number, by its digits
 module _ (at most : ℕ) where
-  none-of : (ds : List ℕ) → length ds ≡ 0 → numberWord 0 nowhere ≡ numberOf ds at most
+  none-of : (ds : List ℕ) → length ds ≡ 0 → numberWord 0 nowhere ≡ numberOfDigits ds at most
   none-of [] h = refl
   none-of (d ∷ ds) h = absurd (omega arith)
 
-  over-of : (ds : List ℕ) → most < decimal 0 ds → numberWord 0 nowhere ≡ numberOf ds at most
+  over-of : (ds : List ℕ) → most < decimal 0 ds → numberWord 0 nowhere ≡ numberOfDigits ds at most
   over-of [] h = refl
   over-of (d ∷ ds) h = simp (lt-leb _ _ h)
 
-  found-of : (ds : List ℕ) → (length ds ≡ 0 → ⊥) → decimal 0 ds ≤ most → numberWord (decimal 0 ds) (at + length ds) ≡ numberOf ds at most
+  found-of : (ds : List ℕ) → (length ds ≡ 0 → ⊥) → decimal 0 ds ≤ most → numberWord (decimal 0 ds) (at + length ds) ≡ numberOfDigits ds at most
   found-of [] n h = absurd (n refl)
   found-of (d ∷ ds) n h = simp (le-leb _ _ h)
 
-  most-of : (ds : List ℕ) → numberOf ds at most .value ≤ most
+  most-of : (ds : List ℕ) → numberOfDigits ds at most .value ≤ most
   most-of [] = omega arith
   most-of (d ∷ ds) = by-test (leb (decimal 0 (d ∷ ds)) most) refl
     where

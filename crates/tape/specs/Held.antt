@@ -28,8 +28,8 @@ abbrev pub servicesWord : MaybeServiceInfo → ℕ → ServicesWord
 servicesWord services next = record { «service_info» = services; next = next }
 
 -- three numbers with slashes between them, the id in 8 bits and the others in 32
-unfoldable pub rateAt : List ℕ → ℕ → RateWord
-rateAt line at =
+unfoldable pub heldRateAt : List ℕ → ℕ → RateWord
+heldRateAt line at =
     let id = smallAt line at in
     let numer = numberAt line (markAt line (id .next) 47) most32 in
     let denom = numberAt line (markAt line (numer .next) 47) most32 in
@@ -47,12 +47,12 @@ clockAt line at =
     timeWord (timePresent (timeCode (hours .value) (minutes .value) (seconds .value) (frames .value) (field .on) (drop .on))) (drop .next)
 
 -- a dash where no time code is held
-unfoldable pub timeAt : List ℕ → ℕ → TimeWord
-timeAt line at = cond (isNowhere (markAt line at 45)) (clockAt line at) (timeWord timeAbsent (markAt line at 45))
+unfoldable pub heldTimeAt : List ℕ → ℕ → TimeWord
+heldTimeAt line at = cond (isNowhere (markAt line at 45)) (clockAt line at) (timeWord timeAbsent (markAt line at 45))
 
 -- a dash where no list is held
-unfoldable pub servicesAt : List ℕ → ℕ → ServicesWord
-servicesAt line at =
+unfoldable pub heldServicesAt : List ℕ → ℕ → ServicesWord
+heldServicesAt line at =
     cond (isNowhere (markAt line at 45))
     (servicesWord (listPresent (listAt line at .list)) (listAt line at .next))
     (servicesWord listAbsent (markAt line at 45))

@@ -66,18 +66,18 @@ abbrev pub heldBy : List EntryWord → List ServiceEntry
 heldBy words = map (λ (word : EntryWord). word .entry) words
 
 -- a list with all of these counted and the first fifteen in the places
-unfoldable pub listOf : Bool → Bool → Bool → List ServiceEntry → ServiceInfo
-listOf start change complete es = ServiceList.list start change complete (filled (take places es)) (length es)
+unfoldable pub listCounting : Bool → Bool → Bool → List ServiceEntry → ServiceInfo
+listCounting start change complete es = ServiceList.list start change complete (filled (take places es)) (length es)
 
 -- the entries behind the flags; a line has fewer entries than bytes
 unfoldable pub entriesAt : List ℕ → ℕ → Bool → Bool → Bool → ListWord
 entriesAt line at start change complete =
     let words = entriesFrom (length line) line at in
-    listWord (listOf start change complete (heldBy words)) (lastOf at words)
+    listWord (listCounting start change complete (heldBy words)) (lastOf at words)
 
 -- one entry more; behind the fifteenth it is counted and has no place
-unfoldable pub counted : ServiceInfo → ServiceEntry → ServiceInfo
-counted l e =
+unfoldable pub withOneMore : ServiceInfo → ServiceEntry → ServiceInfo
+withOneMore l e =
     ServiceList.list (l .start) (l .change) (l .complete)
     (cond (ltb (l .count) places) (set (l .services) (l .count) e) (l .services)) (l .count + 1)
 

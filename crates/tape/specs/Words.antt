@@ -58,13 +58,13 @@ abbrev pub numberWord : ℕ → ℕ → NumberWord
 numberWord value next = record { value = value; next = next }
 
 -- one digit or more, which make a number up to this limit
-abbrev pub numberOf : List ℕ → ℕ → ℕ → NumberWord
-numberOf [] at most = numberWord 0 nowhere
-numberOf (d ∷ ds) at most =
+abbrev pub numberOfDigits : List ℕ → ℕ → ℕ → NumberWord
+numberOfDigits [] at most = numberWord 0 nowhere
+numberOfDigits (d ∷ ds) at most =
     cond (leb (decimal 0 (d ∷ ds)) most) (numberWord (decimal 0 (d ∷ ds)) (at + length (d ∷ ds))) (numberWord 0 nowhere)
 
 unfoldable pub numberAt : List ℕ → ℕ → ℕ → NumberWord
-numberAt line at most = numberOf (digitsOf (drop at line)) at most
+numberAt line at most = numberOfDigits (digitsOf (drop at line)) at most
 
 abbrev pub byteWord : ℕ → ℕ → ByteWord
 byteWord value next = record { value = value; next = next }

@@ -30,7 +30,7 @@ pub struct ServicesWord {
 
 // Any three numbers; whether they are one of the eight rates is the writer's to say.
 pub fn rate(line: &[u8], at: usize) -> RateWord
-    ensures { λ r. ⌜ r ≡ Held.rateAt (now (line .entry)) at ⌝ }
+    ensures { λ r. ⌜ r ≡ Held.heldRateAt (now (line .entry)) at ⌝ }
 {
     let id = small(line, at);
     let numer = number(line, mark(line, id.next, b'/'), 0xFFFF_FFFF);
@@ -47,7 +47,7 @@ pub fn rate(line: &[u8], at: usize) -> RateWord
 
 // A dash where none is held.
 pub fn time(line: &[u8], at: usize) -> TimeWord
-    ensures { λ r. ⌜ r ≡ Held.timeAt (now (line .entry)) at ⌝ }
+    ensures { λ r. ⌜ r ≡ Held.heldTimeAt (now (line .entry)) at ⌝ }
 {
     let dash = mark(line, at, b'-');
     if dash != NOWHERE {
@@ -87,7 +87,7 @@ fn clock(line: &[u8], at: usize) -> TimeWord
 
 // A dash where none are held.
 pub fn services(line: &[u8], at: usize) -> ServicesWord
-    ensures { λ r. ⌜ r ≡ Held.servicesAt (now (line .entry)) at ⌝ }
+    ensures { λ r. ⌜ r ≡ Held.heldServicesAt (now (line .entry)) at ⌝ }
 {
     let dash = mark(line, at, b'-');
     if dash != NOWHERE {

@@ -99,7 +99,7 @@ fn entries(line: &[u8], from: usize, start: bool, change: bool, complete: bool) 
 
 // No entry as yet.
 fn flagged(start: bool, change: bool, complete: bool) -> ServiceInfo
-    ensures { λ r. ⌜ r ≡ Lists.listOf start change complete [] ⌝ }
+    ensures { λ r. ⌜ r ≡ Lists.listCounting start change complete [] ⌝ }
 {
     let services = fillers();
     ServiceInfo {
@@ -114,7 +114,7 @@ fn flagged(start: bool, change: bool, complete: bool) -> ServiceInfo
 // Behind the fifteenth an entry is counted and has no place.
 fn counted(mut list: ServiceInfo, entry: ServiceEntry) -> ServiceInfo
     requires { ⌜ list .count < Words.nowhere ⌝ }
-    ensures { λ r. ⌜ r ≡ Lists.counted list entry ⌝ }
+    ensures { λ r. ⌜ r ≡ Lists.withOneMore list entry ⌝ }
 {
     let at = list.count;
     list.count = at + 1;

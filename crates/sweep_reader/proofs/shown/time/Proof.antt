@@ -1,7 +1,7 @@
 -- `sweep_reader::shown::time`: whether it is there, and its six values.
 -- Assumes nothing.
 use mathlib.Core.Path.{_∙_}
-use Rattle.sweep_reader.specs.Shown.{timeFed}
+use Rattle.sweep_reader.specs.Shown.{timeCodeFed}
 use borrow.Author.Needs.{needs}
 use Rattle.sweep_reader.proofs.shown.time.Statement.{statement}
 use Rattle.sweep_reader.proofs.shown.time.Tie as tie
@@ -28,7 +28,7 @@ flag-fed-requires-3 : tie.Need-flag-fed-requires-3
 flag-fed-requires-3 c κs = search needs
 
 returns : tie.Need-returns
-unfolding timeFed
+unfolding timeCodeFed
 returns c =
     let s = c .before .before in
     let t = s .before .before in

@@ -4,14 +4,14 @@ use mathlib.Core.Path.{_≡_, _∙_, ap}
 use Prim.Native.Nat.{_≤_, _-_}
 use Rattle.report.proofs.Swept.{swept-none, swept-more}
 use Rattle.report.specs.Digest.{swept}
-use Rattle.sweep_services.specs.Sweep.{stepOf}
+use Rattle.sweep_services.specs.Sweep.{sectionStep}
 use native.Mathlib.Omega.{arith}
 use borrow.Author.Needs.{needs}
 use Rattle.sweep_services.proofs.digest.over.Statement.{statement}
 use Rattle.sweep_services.proofs.digest.over.Tie as tie
 
 abbrev Inv-loop : tie.InvT-loop
-Inv-loop block count digest₀ n₀ digest n = (n ≤ count) × (digest ≡ swept (stepOf block) n)
+Inv-loop block count digest₀ n₀ digest n = (n ≤ count) × (digest ≡ swept (sectionStep block) n)
 
 abbrev μ-loop : tie.MeasureT-loop
 μ-loop block count digest₀ n₀ digest n = count - n

@@ -4,14 +4,14 @@ use mathlib.Core.Path.{_≡_, _∙_, ap}
 use Prim.Native.Nat.{_≤_, _-_}
 use Rattle.report.proofs.Swept.{swept-none, swept-more}
 use Rattle.report.specs.Digest.{swept}
-use Rattle.sweep_values.specs.Sweep.{stepOf}
+use Rattle.sweep_values.specs.Sweep.{valueStep}
 use native.Mathlib.Omega.{arith}
 use borrow.Author.Needs.{needs}
 use Rattle.sweep_values.proofs.digest.over.Statement.{statement}
 use Rattle.sweep_values.proofs.digest.over.Tie as tie
 
 abbrev Inv-loop : tie.InvT-loop
-Inv-loop block first count digest₀ n₀ digest n = (n ≤ count) × (digest ≡ swept (stepOf block first) n)
+Inv-loop block first count digest₀ n₀ digest n = (n ≤ count) × (digest ≡ swept (valueStep block first) n)
 
 abbrev μ-loop : tie.MeasureT-loop
 μ-loop block first count digest₀ n₀ digest n = count - n

@@ -1,6 +1,6 @@
 -- `held::rate`: three numbers.
 -- Assumes nothing.
-use Rattle.tape.specs.Held.{rateAt}
+use Rattle.tape.specs.Held.{heldRateAt}
 use borrow.Author.Needs.{needs}
 use Rattle.tape.proofs.held.rate.Statement.{statement}
 use Rattle.tape.proofs.held.rate.Tie as tie
@@ -21,7 +21,7 @@ number-requires-2 : tie.Need-number-requires-2
 number-requires-2 c κs = search needs
 
 returns : tie.Need-returns
-unfolding rateAt
+unfolding heldRateAt
 returns c =
     let numer = c .before .before in
     rw (c .number2 .ensures, c .before .mark2 .ensures, numer .number .ensures, numer .before .mark .ensures, numer .before .before .small .ensures)

@@ -2,7 +2,7 @@
 -- Assumes nothing.
 use mathlib.Core.Path.{_∙_}
 use borrow.Author.Tests.{eq-eqb, ne-eqb}
-use Rattle.tape.specs.Held.{servicesAt}
+use Rattle.tape.specs.Held.{heldServicesAt}
 use borrow.Author.Needs.{needs}
 use Rattle.tape.proofs.held.services.Statement.{statement}
 use Rattle.tape.proofs.held.services.Tie as tie
@@ -14,7 +14,7 @@ absent-requires : tie.Need-absent-requires
 absent-requires c κs = search needs
 
 returns : tie.Need-returns
-unfolding servicesAt
+unfolding heldServicesAt
 returns c =
     let e = c .before .before .mark .ensures in
     rw (c .absent .ensures, e) (simp (ne-eqb _ _ (rw e at (c .before .if1 .taken))))
@@ -26,7 +26,7 @@ listed-requires : tie.Need-listed-requires
 listed-requires c κs = search needs
 
 returns-2 : tie.Need-returns-2
-unfolding servicesAt
+unfolding heldServicesAt
 returns-2 c =
     let e = c .before .before .before .mark .ensures in
     c .listed .ensures ∙ rw (c .before .list .ensures) (simp (eq-eqb _ _ (rw e at (c .before .before .if1 .left))))

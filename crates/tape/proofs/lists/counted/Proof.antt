@@ -1,7 +1,7 @@
--- `lists::counted`: with a place, and without one.
+-- `lists::withOneMore`: with a place, and without one.
 -- Assumes nothing.
 use borrow.Author.Tests.{lt-ltb, le-ltb}
-use Rattle.tape.specs.Lists.{counted}
+use Rattle.tape.specs.Lists.{withOneMore}
 use borrow.Author.Needs.{needs}
 use Rattle.tape.proofs.lists.counted.Statement.{statement}
 use Rattle.tape.proofs.lists.counted.Tie as tie
@@ -16,11 +16,11 @@ element-set-from-entry : tie.Need-element-set-from-entry
 element-set-from-entry c = search needs
 
 returns : tie.Need-returns
-unfolding counted
+unfolding withOneMore
 returns c = simp (lt-ltb _ _ (c .if1 .taken))
 
 returns-2 : tie.Need-returns-2
-unfolding counted
+unfolding withOneMore
 returns-2 c = simp (le-ltb _ _ (c .if1 .left))
 
 pub counted-spec : {M : Type 1} → statement M
