@@ -1,4 +1,4 @@
--- `lists::withOneMore`: with a place, and without one.
+-- `lists::counted`: with a place, and without one.
 -- Assumes nothing.
 use borrow.Author.Tests.{lt-ltb, le-ltb}
 use Rattle.tape.specs.Lists.{withOneMore}
