@@ -1,8 +1,15 @@
-# Sourced by oracle/build and bench/build, at the root of the repository, with `out` set to the folder to compile into.
+# Sourced by oracle/build and bench/build: compiles the Rust.
 # shellcheck shell=bash
 
+# into OUT: makes the folder that all is compiled into, and goes to the root of the repository.
+into() {
+    mkdir -p "$1"
+    out=$(cd "$1" && pwd)
+    cd "$(dirname "${BASH_SOURCE[0]}")/.." || return
+}
+
 # compile WORDS..: one call of the compiler.
-compile() { "${RUSTC:-rustc}" --edition 2021 -O --out-dir "${out:?}" -L "$out" "$@"; }
+compile() { "${RUSTC:-rustc}" --edition 2021 -O --out-dir "$out" -L "$out" "$@"; }
 
 # cdp_types SOURCE CEA708 [WORDS..]: checks the carried-over files, then compiles the crate whose root is SOURCE over its
 # stand-ins, that for cea708_types from the file CEA708. WORDS go to the compiler for all but the derive macro, which the
