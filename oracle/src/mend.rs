@@ -21,7 +21,5 @@ pub fn flags(section: u8) -> u8 {
 pub fn checksum(packet: &mut [u8], at: usize, by: usize) {
     packet[by] = 0;
     let last = packet.len() - 1;
-    packet[by] = sum(&packet[..last])
-        .wrapping_add(packet[at])
-        .wrapping_neg();
+    packet[by] = sum(&packet[..last]).wrapping_add(packet[at]).wrapping_neg();
 }
