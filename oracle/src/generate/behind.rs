@@ -1,6 +1,7 @@
 //! Bytes behind the footer, where the checksum byte is part of its own sum.
 
-use crate::packet::{sum, Packet, Plan};
+use crate::mend::sum;
+use crate::packet::{Packet, Plan};
 use crate::random::Random;
 use crate::tape::{caption_room, Tape};
 

@@ -1,4 +1,5 @@
 //! Prints a tape: `generate SEED LINES [FAMILY]`. Equal arguments give equal tapes everywhere.
+//! `generate --families` prints the names of the families, one to a line.
 
 mod aims;
 mod bad;
@@ -11,6 +12,8 @@ mod entries;
 mod future;
 mod limits;
 mod lists;
+#[path = "../mend.rs"]
+mod mend;
 mod packet;
 mod parts;
 mod pieces;
@@ -51,10 +54,7 @@ static FAMILIES: [Family; 15] = [
 ];
 
 fn usage() -> ! {
-    eprintln!("usage: generate SEED LINES [FAMILY], where FAMILY is one of");
-    for Family(name, ..) in &FAMILIES {
-        eprintln!("  {}", name);
-    }
+    eprintln!("usage: generate SEED LINES [FAMILY], or generate --families, which names them");
     std::process::exit(2)
 }
 
@@ -89,6 +89,12 @@ fn fill(rng: &mut Random, tape: &mut Tape, families: &[&Family]) {
 
 fn main() -> std::io::Result<()> {
     let given: Vec<String> = std::env::args().skip(1).collect();
+    if given == ["--families"] {
+        for Family(name, ..) in &FAMILIES {
+            println!("{}", name);
+        }
+        return Ok(());
+    }
     let (seed, lines) = (number(given.first()), number(given.get(1)));
     let families = chosen(given.get(2));
     if families.is_empty() || given.len() > 3 {

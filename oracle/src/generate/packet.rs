@@ -1,5 +1,6 @@
 //! Packets put together from parts, with the places of the parts kept for those who spoil them.
 
+use crate::mend::{self, sum};
 use crate::parts;
 use crate::random::Random;
 
@@ -93,8 +94,7 @@ impl Plan {
         let time = if self.time.is_some() { 0x80 } else { 0 };
         let captions = if self.captions.is_some() { 0x40 } else { 0 };
         let services = match &self.services {
-            // The section's three flags stand two bits lower in the header.
-            Some(section) => 0x20 | ((section[1] & 0x70) >> 2) | (self.loose & 0x03),
+            Some(section) => 0x20 | mend::flags(section[1]) | (self.loose & 0x03),
             None => self.loose & 0x1F,
         };
         time | captions | services
@@ -136,10 +136,6 @@ fn append(bytes: &mut Vec<u8>, part: &[u8]) -> usize {
     bytes.len() - part.len()
 }
 
-pub fn sum(bytes: &[u8]) -> u8 {
-    bytes.iter().fold(0, |sum, &byte| sum.wrapping_add(byte))
-}
-
 impl Packet {
     pub fn any(rng: &mut Random) -> Packet {
         Plan::any(rng).build(rng)
@@ -147,10 +143,7 @@ impl Packet {
 
     /// Makes the length byte right, as far as a byte can.
     pub fn fit(&mut self) {
-        let size = self.bytes.len() as u8;
-        if let Some(place) = self.bytes.get_mut(2) {
-            *place = size;
-        }
+        mend::length(&mut self.bytes);
     }
 
     /// Makes the checksum right for a footer at its place, whatever else is spoilt.
@@ -160,16 +153,16 @@ impl Packet {
             Some(last) if at <= last => last,
             _ => return,
         };
-        self.bytes[at] = 0;
         if at < last {
             self.mend_inside(rng, at, last);
         } else {
-            self.bytes[at] = sum(&self.bytes[..last]).wrapping_neg();
+            mend::checksum(&mut self.bytes, at, at);
         }
     }
 
     /// With bytes behind it the checksum is part of its own sum, so twice it must mend the rest.
     fn mend_inside(&mut self, rng: &mut Random, at: usize, last: usize) {
+        self.bytes[at] = 0;
         if sum(&self.bytes[..last]) % 2 == 1 {
             let even = self.unread(rng, at, last);
             self.bytes[even] ^= 0x01;

@@ -1,5 +1,6 @@
 //! Short inputs: all of up to two bytes as far as the tape reaches, and every prefix of good ones.
 
+use crate::mend;
 use crate::packet::Packet;
 use crate::parts;
 use crate::random::Random;
@@ -45,11 +46,10 @@ fn packet_prefixes(rng: &mut Random, tape: &mut Tape, kind: u64) {
     for size in 0..=whole.len() {
         let mut prefix = whole[..size].to_vec();
         if kind >= 1 && size > 2 {
-            prefix[2] = size as u8;
+            mend::length(&mut prefix);
         }
         if kind == 2 && size > 3 {
-            let sum = crate::packet::sum(&prefix[..size - 1]);
-            prefix[size - 1] = sum.wrapping_neg();
+            mend::checksum(&mut prefix, size - 1, size - 1);
         }
         tape.packet(95, &prefix);
     }

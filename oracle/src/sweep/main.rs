@@ -1,6 +1,9 @@
 //! Prints a small space of inputs whole, as lines or as a digest for each block.
 
 mod digest;
+#[allow(dead_code)] // The flags of a sweep's packets are those of its rows.
+#[path = "../mend.rs"]
+mod mend;
 mod reader;
 mod recipes;
 #[path = "../tape/refusal.rs"]

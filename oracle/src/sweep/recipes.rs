@@ -1,5 +1,7 @@
 //! The packets that the sweep of the reader changes, each made from a row of numbers.
 
+use crate::mend;
+
 /// All that a packet is made from. Its number makes its hours, captions and languages its own.
 pub struct Recipe {
     number: u8,
@@ -71,7 +73,7 @@ impl Recipe {
         // The checksum byte stays where bytes follow it.
         packet.extend_from_slice(&[FOOTER_ID, high, low, 0x5A]);
         packet.resize(packet.len() + self.behind, FOOTER_ID);
-        packet[2] = packet.len() as u8;
+        mend::length(&mut packet);
         self.mend(&mut packet);
         packet
     }
@@ -124,18 +126,7 @@ impl Recipe {
     /// Makes the checksum right: by its own byte, or where bytes follow by the first of these, since the checksum byte
     /// then counts twice and cannot mend an odd sum.
     pub fn mend(&self, packet: &mut [u8]) {
-        let last = packet.len() - 1;
-        let checksum = last - self.behind;
-        let at = if self.behind == 0 {
-            checksum
-        } else {
-            checksum + 1
-        };
-        packet[at] = 0;
-        let mut sum = packet[checksum];
-        for &byte in &packet[..last] {
-            sum = sum.wrapping_add(byte);
-        }
-        packet[at] = sum.wrapping_neg();
+        let at = packet.len() - 1 - self.behind;
+        mend::checksum(packet, at, at + usize::from(self.behind > 0));
     }
 }

@@ -1,6 +1,7 @@
 //! Rates, flags, time codes and sequences, each over its whole space.
 
 use crate::digest::Digest;
+use crate::mend;
 use crate::show::{Rate, Time};
 use cdp_types::{probe, CDPParser, CDPWriter, Framerate, ParserError, TimeCode};
 use std::io::{self, Write};
@@ -47,9 +48,8 @@ fn flags_made(out: &mut dyn Write) -> io::Result<()> {
 fn packet_of(time: [u8; 4]) -> Vec<u8> {
     let mut packet = vec![0x96, 0x69, 16, 0x3F, 0x80, 0, 0, 0x71];
     packet.extend_from_slice(&time);
-    packet.extend_from_slice(&[0x74, 0, 0]);
-    let sum = packet.iter().fold(0u8, |sum, &byte| sum.wrapping_add(byte));
-    packet.push(sum.wrapping_neg());
+    packet.extend_from_slice(&[0x74, 0, 0, 0]);
+    mend::checksum(&mut packet, 15, 15);
     packet
 }
 
