@@ -67,7 +67,8 @@ module _ (r : Row) (named : value (r .mask) ≡ r .number) (b : ℕ) where
       ∙ ap₂ eqb bits-are (sym (high-ones (r .mask .ones) (r .mask .below)) ∙ named)
 
   clear-is : allClear (r .mask) b ≡ eqb (bitAnd b (r .number)) 0
-  clear-is = sym (scaled (r .mask .below) (under (r .mask) b) 0 _ refl) ∙ ap₂ eqb bits-are (zero-mul (2 ^ r .mask .below))
+  clear-is =
+      sym (scaled (r .mask .below) (under (r .mask) b) 0 _ refl) ∙ ap₂ eqb bits-are (zero-mul (2 ^ r .mask .below))
 
 named : List Row → Bool
 named [] = true
@@ -77,8 +78,10 @@ tie : (rs : List Row) → named rs ≡ true → All rs
 unfolding named
 tie [] t = tt
 tie (r ∷ rs) t =
-    let e : value (r .mask) ≡ r .number = eqb-true _ _ (and-left _ (named rs) t) in
-    (record { bits = bits-are r e; set = set-is r e; clear = clear-is r e }, tie rs (and-right (eqb (value (r .mask)) (r .number)) (named rs) t))
+    let e : value (r .mask) ≡ r .number = eqb-true _ _ (and-left _ (named rs) t) in (
+      record { bits = bits-are r e; set = set-is r e; clear = clear-is r e },
+      tie rs (and-right (eqb (value (r .mask)) (r .number)) (named rs) t),
+    )
 
 pub masks : All rows
 unfolding named

@@ -9,8 +9,29 @@ use native.Mathlib.Numerals.{add-one}
 use native.Mathlib.Omega.{arith}
 use borrow.Author.Tests.{le-leb, leb-true}
 use lib.Dec.{leb}
-use lib.ListN.{length, getD, set, take, drop, length-append, length-drop, length-take, drop-of-length-le, take-append-drop}
-use lib.Seq.{paste, paste-zero, paste-suc, length-paste, take-all, take-append-seam, take-at, drop-append-add, drop-drop}
+use lib.ListN.{
+  length,
+  getD,
+  set,
+  take,
+  drop,
+  length-append,
+  length-drop,
+  length-take,
+  drop-of-length-le,
+  take-append-drop,
+}
+use lib.Seq.{
+  paste,
+  paste-zero,
+  paste-suc,
+  length-paste,
+  take-all,
+  take-append-seam,
+  take-at,
+  drop-append-add,
+  drop-drop,
+}
 use Rattle.basis.specs.Answer.{BufferTooShort, Refusal, done}
 use Rattle.basis.specs.Bytes.{over}
 use Rattle.basis.specs.Code.{fitting, put, putAnswer}
@@ -35,7 +56,8 @@ module _ (at : ℕ) (bytes buffer : List ℕ) where
   copied-all k h = rw (h, take-all (length bytes) bytes (omega arith))
 
   -- room for all of them
-  pub fits-clear : at + length bytes ≤ length buffer → (done 0 ≡ putAnswer at bytes buffer) × (over at bytes buffer ≡ put at bytes buffer)
+  pub fits-clear : at + length bytes ≤ length buffer
+      → (done 0 ≡ putAnswer at bytes buffer) × (over at bytes buffer ≡ put at bytes buffer)
   unfolding putAnswer put
   fits-clear h =
       let room : length bytes ≤ length buffer - at = omega arith in
@@ -46,7 +68,8 @@ module _ (at : ℕ) (bytes buffer : List ℕ) where
 
   pub length-over : at + length bytes ≤ length buffer → length (over at bytes buffer) ≡ length buffer
   unfolding copied
-  length-over h = rw (← copied-all (length bytes) (omega arith)) (length-paste buffer at bytes (length bytes) h (omega arith))
+  length-over h =
+      rw (← copied-all (length bytes) (omega arith)) (length-paste buffer at bytes (length bytes) h (omega arith))
 
 -- bytes put behind others that were put are all of them put
 pub over-over : (at : ℕ) (xs ys buffer : List ℕ) → at ≤ length buffer
@@ -57,7 +80,9 @@ over-over at xs ys buffer h =
     let rest : List ℕ = drop (at + length xs) buffer in
     let long : length head ≡ at + length xs = simp (length-append, length-take) (omega arith) in
     let behind : drop (at + length xs + length ys) (head ++ rest) ≡ drop (at + length xs + length ys) buffer =
-    ap (λ (n : ℕ). drop (n + length ys) (head ++ rest)) (sym long) ∙ drop-append-add head rest (length ys) ∙ drop-drop (length ys) (at + length xs) buffer in
+    ap (λ (n : ℕ). drop (n + length ys) (head ++ rest)) (sym long)
+    ∙ drop-append-add head rest (length ys)
+    ∙ drop-drop (length ys) (at + length xs) buffer in
     let end : at + length xs + length ys ≡ at + length (xs ++ ys) = simp length-append (omega arith) in
     ap₂ (λ (f b : List ℕ). f ++ ys ++ b) (take-at head rest (at + length xs) long) behind
     ∙ ap (λ (n : ℕ). head ++ ys ++ drop n buffer) end
@@ -82,14 +107,23 @@ take-put at bytes buffer h =
 
 -- bytes put at the start of what stands from a place on are put at that place
 pub part-over : (at : ℕ) (bytes buffer : List ℕ)
-    → take at buffer ++ (over 0 bytes (take (length buffer - at) (drop at buffer)) ++ drop (length buffer - at) (drop at buffer)) ≡ over at bytes buffer
+    → take at buffer
+    ++ (over 0 bytes (take (length buffer - at) (drop at buffer)) ++ drop (length buffer - at) (drop at buffer))
+    ≡ over at bytes buffer
 unfolding over
 part-over at bytes buffer =
     let rest : List ℕ = drop at buffer in
     let long : length rest ≡ length buffer - at = length-drop at buffer in
     let all : take (length buffer - at) rest ≡ rest = take-all (length buffer - at) rest (omega (arith, long)) in
-    let none : drop (length buffer - at) rest ≡ [] = drop-of-length-le rest {i = length buffer - at} (omega (arith, long)) in
-    rw (all, none, zero-add (length bytes), append-nil (bytes ++ drop (length bytes) rest), drop-drop (length bytes) at buffer)
+    let none : drop (length buffer - at) rest ≡ [] =
+    drop-of-length-le rest {i = length buffer - at} (omega (arith, long)) in
+    rw (
+      all,
+      none,
+      zero-add (length bytes),
+      append-nil (bytes ++ drop (length bytes) rest),
+      drop-drop (length bytes) at buffer,
+    )
     (sym (append-assoc (take at buffer) bytes (drop (at + length bytes) buffer)))
 
 -- no bytes put are nothing changed
@@ -98,7 +132,8 @@ unfolding over
 over-nil at buffer = rw (append-nil (take at buffer), add-zero at) (take-append-drop at buffer)
 
 -- where there is no room, or only for nothing past the end, nothing is changed
-nothing-put : (at : ℕ) (bytes buffer : List ℕ) (why : Refusal) (fits : Bool) → leb (length bytes) (length buffer - at) ≡ fits
+nothing-put : (at : ℕ) (bytes buffer : List ℕ) (why : Refusal) (fits : Bool)
+    → leb (length bytes) (length buffer - at) ≡ fits
     → length buffer < at + length bytes → buffer ≡ ifClear (cond fits clear (broken why)) (over at bytes buffer) buffer
 nothing-put at bytes buffer why false e h = refl
 nothing-put at [] buffer why true e h = sym (over-nil at buffer)
@@ -107,8 +142,11 @@ nothing-put at (x ∷ xs) buffer why true e h = absurd (omega (arith, leb-true (
 pub short-refused : (at : ℕ) (bytes buffer : List ℕ) → length buffer < at + length bytes
     → (answer (fitting at bytes buffer) 0 ≡ putAnswer at bytes buffer) × (buffer ≡ put at bytes buffer)
 unfolding putAnswer put
-short-refused at bytes buffer h =
-    (refl, nothing-put at bytes buffer (BufferTooShort (length bytes) (length buffer - at)) (leb (length bytes) (length buffer - at)) refl h)
+short-refused at bytes buffer h = (
+  refl,
+  nothing-put at bytes buffer (BufferTooShort (length bytes) (length buffer - at))
+      (leb (length bytes) (length buffer - at)) refl h,
+)
 
 -- what was put at the start stands there
 pub take-over : (bytes buffer : List ℕ) → take (length bytes) (over 0 bytes buffer) ≡ bytes

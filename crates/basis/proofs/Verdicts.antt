@@ -21,7 +21,8 @@ step false why u v w e = refl
 
 pub verdict-append : (xs ys : List Check) → verdict (xs ++ ys) ≡ andThen (verdict xs) (verdict ys)
 verdict-append [] ys = refl
-verdict-append (x ∷ xs) ys = step (x .kept) (x .refusal) (verdict (xs ++ ys)) (verdict xs) (verdict ys) (verdict-append xs ys)
+verdict-append (x ∷ xs) ys =
+    step (x .kept) (x .refusal) (verdict (xs ++ ys)) (verdict xs) (verdict ys) (verdict-append xs ys)
 
 -- no refusal has number 0, so that an answer is done exactly where its verdict is clear
 pub refused-not-done : (why : Refusal) → eqb (refused why .number) 0 ≡ false
@@ -102,6 +103,7 @@ and-clear clear = refl
 and-clear (broken why) = refl
 
 -- the checks of a part that is there are its own
-pub when-there : (present : Bool) (cs : List Check) → present ≡ true → verdict (when present cs) ≡ clear → verdict cs ≡ clear
+pub when-there : (present : Bool) (cs : List Check) → present ≡ true → verdict (when present cs) ≡ clear
+    → verdict cs ≡ clear
 when-there true cs on h = h
 when-there false cs on h = absurd (false≢true on)

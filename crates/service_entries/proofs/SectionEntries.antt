@@ -11,14 +11,35 @@ use borrow.Author.Tests.{eq-eqb, ne-eqb, eqb-true, le-leb, lt-leb}
 use lib.Dec.{eqb}
 use lib.ListN.{length, set, replicate, length-append}
 use lib.Seq.{append-snoc, set-append-seam}
-use Rattle.basis.proofs.Verdicts.{and-first, and-second, andThen, done-clear, done-value, kept-first, kept-rest, refused-shows, refused-stays, verdict-append}
+use Rattle.basis.proofs.Verdicts.{
+  and-first,
+  and-second,
+  andThen,
+  done-clear,
+  done-value,
+  kept-first,
+  kept-rest,
+  refused-shows,
+  refused-stays,
+  verdict-append,
+}
 use Rattle.basis.specs.Answer.{LengthMismatch, WrongMagic, InvalidFixedBits, ServiceNumberMismatch, done, refused}
 use Rattle.basis.specs.Bytes.{byte}
 use Rattle.basis.specs.Check.{Check, Verdict, check, clear, sizeCheck, verdict, answer, ifClear}
 use Rattle.basis.specs.Mask.{allSet, x80, x40, x20}
 use Rattle.values.specs.Layout.{servicesId, sectionLength}
 use Rattle.service_entry.specs.Entry.{entryChecks, entryOf, entryRead}
-use Rattle.service_entries.specs.Entries.{checksAt, countOf, entriesOf, entryListChecks, filled, fillers, namedBy, sectionChecks, sixBehind}
+use Rattle.service_entries.specs.Entries.{
+  checksAt,
+  countOf,
+  entriesOf,
+  entryListChecks,
+  filled,
+  fillers,
+  namedBy,
+  sectionChecks,
+  sixBehind,
+}
 use Rattle.service_entries.specs.Code.{entriesRead, refusedEntries, sectionAnswer, Framed, answerAt}
 use Rattle.service_entry.specs.Service.{filler, numberOf}
 use Rattle.service_entry.specs.declared.entry.ServiceEntry.{ServiceEntry}
@@ -44,7 +65,8 @@ shownEntries a services = record { answer = a; services = services }
 
 -- S8, as the last of the checks at a place
 abbrev numberCheck : List ℕ → ℕ → Check
-numberCheck d at = check (eqb (namedBy (byte d at)) (numberOf (entryOf (sixBehind d at) .service))) ServiceNumberMismatch
+numberCheck d at =
+    check (eqb (namedBy (byte d at)) (numberOf (entryOf (sixBehind d at) .service))) ServiceNumberMismatch
 
 -- S5 to S8
 module _ (d : List ℕ) (at : ℕ) where
@@ -68,15 +90,19 @@ module _ (d : List ℕ) (at : ℕ) where
           eq-eqb _ _ (decide (byte d at) with-40 has-20))
 
       -- behind the header byte's own tests stand the entry's, and behind those the number's
-      as-parts : verdict (checksAt d at) ≡ andThen (verdict (entryChecks (sixBehind d at))) (verdict (numberCheck d at ∷ []))
-      as-parts = simp (eq-eqb _ _ has-80, header-kept) (verdict-append (entryChecks (sixBehind d at)) (numberCheck d at ∷ []))
+      as-parts : verdict (checksAt d at)
+          ≡ andThen (verdict (entryChecks (sixBehind d at))) (verdict (numberCheck d at ∷ []))
+      as-parts =
+          simp (eq-eqb _ _ has-80, header-kept) (verdict-append (entryChecks (sixBehind d at)) (numberCheck d at ∷ []))
 
       -- an entry that is refused by its own rules
-      pub entry-refused : eqb (entryRead (sixBehind d at) .answer .number) 0 ≡ false → entryRead (sixBehind d at) .answer ≡ answerAt d at
+      pub entry-refused : eqb (entryRead (sixBehind d at) .answer .number) 0 ≡ false
+          → entryRead (sixBehind d at) .answer ≡ answerAt d at
       unfolding entryRead answerAt
       entry-refused h =
           ap (λ (v : Verdict). answer v 0)
-          (sym (refused-stays (verdict (entryChecks (sixBehind d at))) (verdict (numberCheck d at ∷ [])) 0 h) ∙ sym as-parts)
+          (sym (refused-stays (verdict (entryChecks (sixBehind d at))) (verdict (numberCheck d at ∷ [])) 0 h)
+          ∙ sym as-parts)
 
       module _ (read : eqb (entryRead (sixBehind d at) .answer .number) 0 ≡ true) where
         own-clear : verdict (entryChecks (sixBehind d at)) ≡ clear
@@ -93,12 +119,14 @@ module _ (d : List ℕ) (at : ℕ) where
             ap (λ (v : Verdict). answer (andThen v (verdict (numberCheck d at ∷ []))) 0) (sym own-clear)
             ∙ ap (λ (v : Verdict). answer v 0) (sym as-parts)
 
-        pub other-number : (namedBy (byte d at) ≡ numberOf (entryRead (sixBehind d at) .entry .service) → ⊥) → refused ServiceNumberMismatch ≡ answerAt d at
+        pub other-number : (namedBy (byte d at) ≡ numberOf (entryRead (sixBehind d at) .entry .service) → ⊥)
+            → refused ServiceNumberMismatch ≡ answerAt d at
         other-number h =
             let other : namedBy (byte d at) ≡ numberOf (entryOf (sixBehind d at) .service) → ⊥ = rw whole at h in
             rw (← last-check) (simp (ne-eqb _ _ other))
 
-        pub same-number : namedBy (byte d at) ≡ numberOf (entryRead (sixBehind d at) .entry .service) → done 0 ≡ answerAt d at
+        pub same-number : namedBy (byte d at) ≡ numberOf (entryRead (sixBehind d at) .entry .service)
+            → done 0 ≡ answerAt d at
         same-number h =
             let same : namedBy (byte d at) ≡ numberOf (entryOf (sixBehind d at) .service) = rw whole at h in
             rw (← last-check) (simp (eq-eqb _ _ same))
@@ -111,7 +139,8 @@ unfoldable pub left : List ℕ → ℕ → ℕ → Verdict
 left d k count = verdict (entryListChecks d (sectionLength k) (count - k))
 
 -- one entry more at the end
-entries-more : (d : List ℕ) (at n : ℕ) → entriesOf d at (suc n) ≡ entriesOf d at n ++ entryOf (sixBehind d (at + 7 * n)) ∷ []
+entries-more : (d : List ℕ) (at n : ℕ)
+    → entriesOf d at (suc n) ≡ entriesOf d at n ++ entryOf (sixBehind d (at + 7 * n)) ∷ []
 entries-more d at zero =
     let e : at ≡ at + 7 * 0 = omega arith in
     ap (λ (n : ℕ). entryOf (sixBehind d n) ∷ []) e
@@ -125,7 +154,8 @@ entries-length d at zero = refl
 entries-length d at (suc n) = ap suc (entries-length d (at + 7) n)
 
 -- the places of a list with one entry more
-pub filled-more : (es : List ServiceEntry) (e : ServiceEntry) → length es < 15 → set (filled es) (length es) e ≡ filled (es ++ e ∷ [])
+pub filled-more : (es : List ServiceEntry) (e : ServiceEntry) → length es < 15
+    → set (filled es) (length es) e ≡ filled (es ++ e ∷ [])
 unfolding filled
 filled-more es e h =
     let m : ℕ = 14 - length es in
@@ -181,7 +211,9 @@ module _ (d : List ℕ) (k count : ℕ) where
 
   pub left-goes-on : k < count → eqb (answerAt d (sectionLength k) .number) 0 ≡ true → left d k count ≡ left d (k + 1) count
   unfolding answerAt
-  left-goes-on h r = left-step h ∙ ap (λ (v : Verdict). andThen v (left d (k + 1) count)) (done-clear (verdict (checksAt d (sectionLength k))) 0 r)
+  left-goes-on h r =
+      left-step h
+      ∙ ap (λ (v : Verdict). andThen v (left d (k + 1) count)) (done-clear (verdict (checksAt d (sectionLength k))) 0 r)
 
 -- S1 to S4, where one of them is the first that fails
 module _ (d : List ℕ) where
@@ -193,11 +225,13 @@ module _ (d : List ℕ) where
   unfolding sectionAnswer sectionChecks
   other-id h a = simp (le-leb _ _ h, ne-eqb _ _ a)
 
-  pub no-80 : 2 ≤ length d → byte d 0 ≡ servicesId → (byte d 1 / 128 % 2 ≡ 1 → ⊥) → refused InvalidFixedBits ≡ sectionAnswer d
+  pub no-80 : 2 ≤ length d → byte d 0 ≡ servicesId → (byte d 1 / 128 % 2 ≡ 1 → ⊥)
+      → refused InvalidFixedBits ≡ sectionAnswer d
   unfolding sectionAnswer sectionChecks
   no-80 h a b = simp (le-leb _ _ h, eq-eqb _ _ a, ne-eqb _ _ b)
 
-  pub other-size : 2 ≤ length d → byte d 0 ≡ servicesId → byte d 1 / 128 % 2 ≡ 1 → (length d ≡ sectionLength (byte d 1 % 16) → ⊥)
+  pub other-size : 2 ≤ length d → byte d 0 ≡ servicesId → byte d 1 / 128 % 2 ≡ 1
+      → (length d ≡ sectionLength (byte d 1 % 16) → ⊥)
       → refused (LengthMismatch (sectionLength (byte d 1 % 16)) (length d)) ≡ sectionAnswer d
   unfolding sectionAnswer sectionChecks
   other-size h a b s =
@@ -214,7 +248,8 @@ module _ (d : List ℕ) (header : ℕ) (framed : Framed d header) where
   frame-kept =
       let two : 2 ≤ length d = omega (arith, framed .size) in
       let fixed : byte d 1 / 128 % 2 ≡ 1 = rw (framed .first) (framed .fixed) in
-      simp (le-leb _ _ two, eq-eqb _ _ (framed .id), eq-eqb _ _ fixed, count-is, eq-eqb _ _ (framed .size)) (left-first d 0 (header % 16))
+      simp (le-leb _ _ two, eq-eqb _ _ (framed .id), eq-eqb _ _ fixed, count-is, eq-eqb _ _ (framed .size))
+      (left-first d 0 (header % 16))
 
   pub section-refused : (k : ℕ) → k < header % 16 → left d 0 (header % 16) ≡ left d k (header % 16)
       → eqb (answerAt d (sectionLength k) .number) 0 ≡ false → answerAt d (sectionLength k) ≡ sectionAnswer d
@@ -224,36 +259,46 @@ module _ (d : List ℕ) (header : ℕ) (framed : Framed d header) where
       (sym (refused-stays (verdict (checksAt d (sectionLength k))) (left d (k + 1) (header % 16)) 0 r)
       ∙ sym (frame-kept ∙ so-far ∙ left-step d k (header % 16) h))
 
-  pub section-whole : (k : ℕ) → k ≡ header % 16 → left d 0 (header % 16) ≡ left d k (header % 16) → done 0 ≡ sectionAnswer d
+  pub section-whole : (k : ℕ) → k ≡ header % 16 → left d 0 (header % 16) ≡ left d k (header % 16)
+      → done 0 ≡ sectionAnswer d
   unfolding sectionAnswer
-  section-whole k h so-far = ap (λ (v : Verdict). answer v 0) (sym (frame-kept ∙ so-far ∙ left-none d k (header % 16) (omega arith)))
+  section-whole k h so-far =
+      ap (λ (v : Verdict). answer v 0) (sym (frame-kept ∙ so-far ∙ left-none d k (header % 16) (omega arith)))
 
 -- reading shows what a section holds where the tests are clear, and fillers where they are not
 module _ (d : List ℕ) where
   pub entries-refused : eqb (sectionAnswer d .number) 0 ≡ false → refusedEntries (sectionAnswer d) ≡ entriesRead d
   unfolding sectionAnswer entriesRead
-  entries-refused h = refused-shows shownEntries (verdict (sectionChecks d)) 0 0 (filled (entriesOf d 2 (countOf d))) fillers h
+  entries-refused h =
+      refused-shows shownEntries (verdict (sectionChecks d)) 0 0 (filled (entriesOf d 2 (countOf d))) fillers h
 
   pub section-clear : eqb (sectionAnswer d .number) 0 ≡ true → verdict (sectionChecks d) ≡ clear
   unfolding sectionAnswer
   section-clear h = done-clear (verdict (sectionChecks d)) 0 h
 
-  pub entries-read : eqb (sectionAnswer d .number) 0 ≡ true → shownEntries (sectionAnswer d) (filled (entriesOf d 2 (countOf d))) ≡ entriesRead d
+  pub entries-read : eqb (sectionAnswer d .number) 0 ≡ true
+      → shownEntries (sectionAnswer d) (filled (entriesOf d 2 (countOf d))) ≡ entriesRead d
   unfolding sectionAnswer entriesRead
-  entries-read h = ap (shownEntries (answer (verdict (sectionChecks d)) 0)) (sym (done-value (verdict (sectionChecks d)) 0 (filled (entriesOf d 2 (countOf d))) fillers h))
+  entries-read h =
+      ap (shownEntries (answer (verdict (sectionChecks d)) 0))
+      (sym (done-value (verdict (sectionChecks d)) 0 (filled (entriesOf d 2 (countOf d))) fillers h))
 
 -- of entries that are right, each is right by its own rules, so that its own reader gives what its bytes hold
 module _ (d : List ℕ) where
-  at-kept : (from count k : ℕ) → k < count → verdict (entryListChecks d from count) ≡ clear → verdict (checksAt d (from + 7 * k)) ≡ clear
+  at-kept : (from count k : ℕ) → k < count → verdict (entryListChecks d from count) ≡ clear
+      → verdict (checksAt d (from + 7 * k)) ≡ clear
   at-kept from zero k h v = absurd (omega arith)
   at-kept from (suc n) zero h v =
       let e : from ≡ from + 7 * 0 = omega arith in
-      rw (← e) (and-first (verdict (checksAt d from)) (verdict (entryListChecks d (from + 7) n)) (sym (verdict-append (checksAt d from) (entryListChecks d (from + 7) n)) ∙ v))
+      rw (← e)
+      (and-first (verdict (checksAt d from)) (verdict (entryListChecks d (from + 7) n))
+      (sym (verdict-append (checksAt d from) (entryListChecks d (from + 7) n)) ∙ v))
   at-kept from (suc n) (suc k) h v =
       let e : from + 7 + 7 * k ≡ from + 7 * suc k = omega arith in
       rw (← e)
       (at-kept (from + 7) n k (omega arith)
-      (and-second (verdict (checksAt d from)) (verdict (entryListChecks d (from + 7) n)) (sym (verdict-append (checksAt d from) (entryListChecks d (from + 7) n)) ∙ v)))
+      (and-second (verdict (checksAt d from)) (verdict (entryListChecks d (from + 7) n))
+      (sym (verdict-append (checksAt d from) (entryListChecks d (from + 7) n)) ∙ v)))
 
   pub entry-held : (from count k : ℕ) → verdict (entryListChecks d from count) ≡ clear → k < count
       → entryRead (sixBehind d (from + 7 * k)) .entry ≡ entryOf (sixBehind d (from + 7 * k))
@@ -264,7 +309,9 @@ module _ (d : List ℕ) where
       let named : Check = check (not (allSet x40 (byte d at)) || allSet x20 (byte d at)) InvalidFixedBits in
       let behind : List Check = entryChecks (sixBehind d at) ++ numberCheck d at ∷ [] in
       let own : verdict (entryChecks (sixBehind d at)) ≡ clear =
-      and-first _ (verdict (numberCheck d at ∷ [])) (sym (verdict-append (entryChecks (sixBehind d at)) (numberCheck d at ∷ [])) ∙ kept-rest named behind (kept-rest bit (named ∷ behind) (at-kept from count k h v))) in
+      and-first _ (verdict (numberCheck d at ∷ []))
+      (sym (verdict-append (entryChecks (sixBehind d at)) (numberCheck d at ∷ []))
+      ∙ kept-rest named behind (kept-rest bit (named ∷ behind) (at-kept from count k h v))) in
       rw own
 
 -- a section that is right has all its bytes, and its entries are right
@@ -276,14 +323,18 @@ module _ (d : List ℕ) (right : verdict (sectionChecks d) ≡ clear) where
   bitCheck = check (allSet x80 (byte d 1)) InvalidFixedBits
 
   abbrev lengthCheck : Check
-  lengthCheck = check (eqb (length d) (sectionLength (countOf d))) (LengthMismatch (sectionLength (countOf d)) (length d))
+  lengthCheck =
+      check (eqb (length d) (sectionLength (countOf d))) (LengthMismatch (sectionLength (countOf d)) (length d))
 
   abbrev own : List Check
   own = entryListChecks d 2 (countOf d)
 
   from-size : verdict (lengthCheck ∷ own) ≡ clear
   unfolding sectionChecks
-  from-size = kept-rest bitCheck (lengthCheck ∷ own) (kept-rest idCheck (bitCheck ∷ lengthCheck ∷ own) (kept-rest (sizeCheck d 2) (idCheck ∷ bitCheck ∷ lengthCheck ∷ own) right))
+  from-size =
+      kept-rest bitCheck (lengthCheck ∷ own)
+      (kept-rest idCheck (bitCheck ∷ lengthCheck ∷ own)
+      (kept-rest (sizeCheck d 2) (idCheck ∷ bitCheck ∷ lengthCheck ∷ own) right))
 
   pub section-long : length d ≡ sectionLength (byte d 1 % 16)
   section-long =

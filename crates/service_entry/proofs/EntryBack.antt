@@ -17,7 +17,16 @@ use Rattle.basis.specs.Mask.{Mask, flag, under, allSet, x80, x40, x3F}
 use Rattle.service_entry.specs.Entry.{entryChecks, entryOf, entryRead, serviceOf}
 use Rattle.service_entry.specs.Code.{sevenOf, sixOf, within}
 use Rattle.service_entry.specs.Service.{entry}
-use Rattle.service_entry.specs.EntryWriting.{writable, kindByte, flagsByte, entryBytes, entryCheck, entryWritten, sevenBytes, Written}
+use Rattle.service_entry.specs.EntryWriting.{
+  writable,
+  kindByte,
+  flagsByte,
+  entryBytes,
+  entryCheck,
+  entryWritten,
+  sevenBytes,
+  Written,
+}
 use Rattle.service_entry.proofs.EntryWrites.{first-bytes, room-done}
 use Rattle.service_entry.specs.declared.entry.ServiceEntry.{ServiceEntry}
 use Rattle.service_entry.specs.declared.service.DigitalServiceEntry.{DigitalServiceEntry}
@@ -123,7 +132,8 @@ language-back (a ∷ []) h = absurd (omega arith)
 language-back (a ∷ b ∷ []) h = absurd (omega arith)
 language-back (a ∷ b ∷ c ∷ d ∷ l) h = absurd (omega arith)
 
-pub entry-of-back : (e : ServiceEntry) → length (e .language) ≡ 3 → writable (e .service) ≡ true → entryOf (entryBytes e) ≡ e
+pub entry-of-back : (e : ServiceEntry) → length (e .language) ≡ 3 → writable (e .service) ≡ true
+    → entryOf (entryBytes e) ≡ e
 entry-of-back e three h = rw (language-back (e .language) three, service-back (e .service) h)
 
 -- An entry with a language of three bytes that can be written, a field or a digital number of 1 to 63: reading the six bytes
@@ -136,7 +146,8 @@ entry-back e three h = rw (entry-clear (e .language) (e .service) h, entry-of-ba
 -- The same of what the writer leaves in a buffer, where it answers 0: reading as many first bytes as it answers gives the entry.
 pub entry-written-back : (e : ServiceEntry) (buffer : List ℕ) → length (e .language) ≡ 3
     → eqb (entryWritten e buffer .answer .number) 0 ≡ true
-    → entryRead (take (entryWritten e buffer .answer .first) (entryWritten e buffer .buffer)) ≡ record { answer = done 0; entry = e }
+    → entryRead (take (entryWritten e buffer .answer .first) (entryWritten e buffer .buffer))
+    ≡ record { answer = done 0; entry = e }
 unfolding entryWritten
 entry-written-back e buffer three h =
     let both = room-done (entryCheck e ∷ []) 6 (entryBytes e) buffer h in

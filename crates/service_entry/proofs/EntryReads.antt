@@ -31,13 +31,15 @@ module _ (e : List ℕ) where
   no-40 a = simp (ne-eqb _ _ a)
 
   module _ (has-40 : byte e 3 / 64 % 2 ≡ 1) where
-    pub no-number : byte e 3 / 128 % 2 ≡ 1 → byte e 3 % 64 ≡ 0 → refusedEntry (refused InvalidServiceNumber) ≡ entryRead e
+    pub no-number : byte e 3 / 128 % 2 ≡ 1 → byte e 3 % 64 ≡ 0
+        → refusedEntry (refused InvalidServiceNumber) ≡ entryRead e
     unfolding entryRead
     no-number a b =
         let n : byte e 3 / 1 % 64 ≡ 0 = omega arith in
         simp (eq-eqb _ _ has-40, eq-eqb _ _ a, eq-eqb _ _ n)
 
-    pub no-3E : (byte e 3 / 128 % 2 ≡ 1 → ⊥) → (byte e 3 / 2 % 32 ≡ 31 → ⊥) → refusedEntry (refused InvalidFixedBits) ≡ entryRead e
+    pub no-3E : (byte e 3 / 128 % 2 ≡ 1 → ⊥) → (byte e 3 / 2 % 32 ≡ 31 → ⊥)
+        → refusedEntry (refused InvalidFixedBits) ≡ entryRead e
     unfolding entryRead
     no-3E a b = simp (eq-eqb _ _ has-40, ne-eqb _ _ a, ne-eqb _ _ b)
 
@@ -47,7 +49,8 @@ module _ (e : List ℕ) where
         let n : byte e 4 / 1 % 64 ≡ 63 → ⊥ = λ h. a (omega arith) in
         simp (eq-eqb _ _ has-40, kind-kept _ k, ne-eqb _ _ n)
 
-    pub no-FF : Kind (byte e 3) → byte e 4 % 64 ≡ 63 → (byte e 5 ≡ 0xFF → ⊥) → refusedEntry (refused InvalidFixedBits) ≡ entryRead e
+    pub no-FF : Kind (byte e 3) → byte e 4 % 64 ≡ 63 → (byte e 5 ≡ 0xFF → ⊥)
+        → refusedEntry (refused InvalidFixedBits) ≡ entryRead e
     unfolding entryRead
     no-FF k a b =
         let n : byte e 4 / 1 % 64 ≡ 63 = omega arith in
@@ -63,7 +66,11 @@ module _ (e : List ℕ) where
 -- what bytes 3 and 4 name
 module _ (k f : ℕ) where
   pub digital-is : k / 128 % 2 ≡ 1
-      → Service (record { service = k % 64; «easy_reader» = eqb (f / 128 % 2) 1; «wide_aspect_ratio» = eqb (f / 64 % 2) 1 }) ≡ serviceOf k f
+      → Service (record {
+        service = k % 64;
+        «easy_reader» = eqb (f / 128 % 2) 1;
+        «wide_aspect_ratio» = eqb (f / 64 % 2) 1;
+      }) ≡ serviceOf k f
   digital-is a =
       let n : k / 1 % 64 ≡ k % 64 = omega arith in
       simp (eq-eqb _ _ a, n)

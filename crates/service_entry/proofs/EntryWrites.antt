@@ -45,18 +45,22 @@ module _ (cs : List Check) (needed : ℕ) (bytes buffer : List ℕ) where
   unfolding room
   in-order = verdict-append cs (roomCheck needed (length buffer) ∷ [])
 
-  pub values-refused : (k : ℕ) → eqb (answer (verdict cs) k .number) 0 ≡ false → Leaves roomLast (answer (verdict cs) k) buffer
+  pub values-refused : (k : ℕ) → eqb (answer (verdict cs) k .number) 0 ≡ false
+      → Leaves roomLast (answer (verdict cs) k) buffer
   values-refused k h = rw in-order (refused-so (verdict cs) room k bytes buffer h)
 
-  pub no-room : verdict cs ≡ clear → length buffer < needed → Leaves roomLast (refused (BufferTooShort needed (length buffer))) buffer
+  pub no-room : verdict cs ≡ clear → length buffer < needed
+      → Leaves roomLast (refused (BufferTooShort needed (length buffer))) buffer
   unfolding room
   no-room right h = rw (in-order, right) (simp (lt-leb _ _ h), simp (lt-leb _ _ h))
 
-  pub all-fits : verdict cs ≡ clear → length bytes ≡ needed → needed ≤ length buffer → Leaves roomLast (done needed) (over 0 bytes buffer)
+  pub all-fits : verdict cs ≡ clear → length bytes ≡ needed → needed ≤ length buffer
+      → Leaves roomLast (done needed) (over 0 bytes buffer)
   unfolding room
   all-fits right long h = rw (in-order, right) (simp (le-leb _ _ h, long), simp (le-leb _ _ h))
 
-  pub room-done : eqb (roomLast .answer .number) 0 ≡ true → (verdict cs ≡ clear) × (roomLast ≡ written clear bytes buffer)
+  pub room-done : eqb (roomLast .answer .number) 0 ≡ true
+      → (verdict cs ≡ clear) × (roomLast ≡ written clear bytes buffer)
   room-done h = rw in-order (done-means (verdict cs) room bytes buffer (rw in-order at h))
 
 -- an entry alone
@@ -74,7 +78,8 @@ module _ (e : ServiceEntry) (buffer : List ℕ) where
       → Leaves (entryWritten e buffer) (done 6) (put 0 (entryBytes e) buffer)
   unfolding entryWritten
   entry-fits w h =
-      let all : Leaves (entryWritten e buffer) (done 6) (over 0 (entryBytes e) buffer) = all-fits (entryCheck e ∷ []) 6 (entryBytes e) buffer (simp w) refl h in
+      let all : Leaves (entryWritten e buffer) (done 6) (over 0 (entryBytes e) buffer) =
+      all-fits (entryCheck e ∷ []) 6 (entryBytes e) buffer (simp w) refl h in
       (all .0, put-fits 0 (entryBytes e) buffer h ∙ all .1)
 
 -- as many first bytes as a writer answers with 0 are the bytes that it wrote

@@ -19,7 +19,16 @@ use Rattle.basis.specs.Mask.{flag, under, allSet, x80, x40, x20, x10, x3F, x0F}
 use Rattle.values.specs.Layout.{servicesId, sectionLength}
 use Rattle.service_entry.specs.Entry.{entryChecks, entryOf}
 use Rattle.service_list.specs.SectionBack.{isFieldTwo, namesFieldTwo, allOfThree, Ready}
-use Rattle.service_entries.specs.Entries.{sixBehind, checksAt, entryListChecks, entriesOf, filled, frameChecks, sectionChecks, countOf}
+use Rattle.service_entries.specs.Entries.{
+  sixBehind,
+  checksAt,
+  entryListChecks,
+  entriesOf,
+  filled,
+  frameChecks,
+  sectionChecks,
+  countOf,
+}
 use Rattle.service_list.specs.Section.{sectionRead, listOf}
 use Rattle.service_entry.specs.Service.{numberOf}
 use Rattle.service_list.specs.ServiceList.{list, empty}
@@ -60,7 +69,8 @@ header-low (Field true) h = refl
 header-low (Field false) h = refl
 header-low (Service d) h = header-40 (d .service) (number-high d h)
 
-header-named : (s : FieldOrService) → writable s ≡ true → eqb (under x3F (headerByte s)) (numberOf s) ≡ not (isFieldTwo s)
+header-named : (s : FieldOrService) → writable s ≡ true
+    → eqb (under x3F (headerByte s)) (numberOf s) ≡ not (isFieldTwo s)
 header-named (Field true) h = refl
 header-named (Field false) h = refl
 header-named (Service d) h = eq-eqb _ _ (header-number (d .service) (number-high d h))
@@ -104,7 +114,8 @@ module _ (d : List ℕ) (at : ℕ) (e : ServiceEntry) (rest : List ℕ) (h : dro
       (rw header-on (header-fixed (e .service) w))
       (rw header-on (header-low (e .service) w))
       (ap (λ (six : List ℕ). verdict (entryChecks six)) six-on ∙ entry-clear (e .language) (e .service) w)
-      (rw (header-on, ap (λ (six : List ℕ). entryOf six .service) six-on ∙ service-back (e .service) w) (header-named (e .service) w))
+      (rw (header-on, ap (λ (six : List ℕ). entryOf six .service) six-on ∙ service-back (e .service) w)
+      (header-named (e .service) w))
 
 -- the verdict on entries one after the other, and what they hold
 both : (a b : Bool) → andThen (named a) (named b) ≡ named (a || b)
@@ -133,7 +144,8 @@ entries-back d at (e ∷ es) h w t =
     let ts : allOfThree es ≡ true = and-right (eqb (length (e .language)) 3) _ t in
     ap₂
     (λ (x : ServiceEntry) (xs : List ServiceEntry). x ∷ xs)
-    (ap entryOf (six-on d at e (entryListBytes es) h) ∙ entry-of-back e (eqb-true _ _ (and-left _ _ t)) (and-left _ _ w))
+    (ap entryOf (six-on d at e (entryListBytes es) h)
+    ∙ entry-of-back e (eqb-true _ _ (and-left _ _ t)) (and-left _ _ w))
     (entries-back d (at + 7) es on ws ts)
 
 -- byte 1: bit 80 is set, each flag is in its bit, and the low four are the count
@@ -197,7 +209,8 @@ module _ (l : ServiceInfo) (r : Ready l) where
 
   -- flags and count are those that were written, whatever the entries are
   pub byte-back : listOf (sectionBytes l)
-      ≡ list (l .start) (l .change) (l .complete) (filled (entriesOf (sectionBytes l) 2 (countOf (sectionBytes l)))) (l .count)
+      ≡ list (l .start) (l .change) (l .complete) (filled (entriesOf (sectionBytes l) 2 (countOf (sectionBytes l))))
+      (l .count)
   unfolding listOf sectionBytes
   byte-back =
       let start : allSet x40 (sectionByte l) ≡ l .start = bit-back _ _ (one .first) in
@@ -242,7 +255,9 @@ module _ (l : ServiceInfo) (buffer : List ℕ) (taken : eqb (sectionWritten l bu
       record { count = both .0; numbers = both .1 }
 
   first-written : take (sectionWritten l buffer .answer .first) (sectionWritten l buffer .buffer) ≡ sectionBytes l
-  first-written = ap (λ (w : Written). take (w .answer .first) (w .buffer)) (written-done l buffer taken .1) ∙ first-bytes (sectionBytes l) buffer
+  first-written =
+      ap (λ (w : Written). take (w .answer .first) (w .buffer)) (written-done l buffer taken .1)
+      ∙ first-bytes (sectionBytes l) buffer
 
   pub written-back : allOfThree (counted l) ≡ true → namesFieldTwo (counted l) ≡ false
       → sectionRead (take (sectionWritten l buffer .answer .first) (sectionWritten l buffer .buffer))

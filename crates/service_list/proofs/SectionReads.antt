@@ -22,7 +22,8 @@ use Rattle.service_list.specs.declared.list.ServiceInfo.{ServiceInfo}
 use Rattle.service_list.specs.declared.section.ServiceInfoRead.{ServiceInfoRead}
 
 pub with-is : (header : ℕ) (services : List ServiceEntry)
-    → list (eqb (header / 64 % 2) 1) (eqb (header / 32 % 2) 1) (eqb (header / 16 % 2) 1) services (header % 16) ≡ listWith header services
+    → list (eqb (header / 64 % 2) 1) (eqb (header / 32 % 2) 1) (eqb (header / 16 % 2) 1) services (header % 16)
+    ≡ listWith header services
 with-is header services =
     let n : header / 1 % 16 ≡ header % 16 = omega arith in
     rw n
@@ -35,7 +36,8 @@ module _ (d : List ℕ) where
   pub list-refused : eqb (entriesRead d .answer .number) 0 ≡ false → refusedList (entriesRead d .answer) ≡ sectionRead d
   unfolding entriesRead sectionRead
   list-refused h =
-      refused-shows (λ (a : Answer) (l : ServiceInfo). record { answer = a; list = l }) (verdict (sectionChecks d)) 0 0 (listOf d) empty h
+      refused-shows (λ (a : Answer) (l : ServiceInfo). record { answer = a; list = l })
+      (verdict (sectionChecks d)) 0 0 (listOf d) empty h
 
   module _ (read : eqb (entriesRead d .answer .number) 0 ≡ true) where
     all-clear : verdict (sectionChecks d) ≡ clear

@@ -23,7 +23,15 @@ use Rattle.service_entry.proofs.EntryBack.{seven-of}
 use Rattle.service_entry.specs.Code.{sevenOf}
 use Rattle.service_entry.specs.EntryWriting.{sevenBytes, writable, written}
 use Rattle.service_list.specs.Code.{allWritable, valueAnswer}
-use Rattle.service_list.specs.SectionWriting.{counted, entryListBytes, placesFrom, sectionByte, sectionBytes, sectionWritten, valueChecks}
+use Rattle.service_list.specs.SectionWriting.{
+  counted,
+  entryListBytes,
+  placesFrom,
+  sectionByte,
+  sectionBytes,
+  sectionWritten,
+  valueChecks,
+}
 use Rattle.service_entry.proofs.EntryWrites.{Leaves, all-fits, no-room, room-done, values-refused}
 use Rattle.service_list.proofs.Writable.{entries-verdict, same-place}
 use Rattle.service_entry.specs.declared.entry.ServiceEntry.{ServiceEntry}
@@ -35,12 +43,14 @@ bytes-length [] = refl
 bytes-length (e ∷ es) = omega (arith, bytes-length es)
 
 -- one entry more at the end
-bytes-more : (es : List ServiceEntry) (e : ServiceEntry) → entryListBytes (es ++ e ∷ []) ≡ entryListBytes es ++ sevenBytes e
+bytes-more : (es : List ServiceEntry) (e : ServiceEntry)
+    → entryListBytes (es ++ e ∷ []) ≡ entryListBytes es ++ sevenBytes e
 bytes-more [] e = refl
 bytes-more (x ∷ es) e = ap (λ (r : List ℕ). sevenBytes x ++ r) (bytes-more es e)
 
 -- one place more at the end
-places-more : (services : List ServiceEntry) (k n : ℕ) → placesFrom services k (suc n) ≡ placesFrom services k n ++ getD services (k + n) filler ∷ []
+places-more : (services : List ServiceEntry) (k n : ℕ)
+    → placesFrom services k (suc n) ≡ placesFrom services k n ++ getD services (k + n) filler ∷ []
 places-more services k zero = ap (λ (j : ℕ). getD services j filler ∷ []) (sym (add-zero k))
 places-more services k (suc n) =
     let at : k + 1 + n ≡ k + suc n = omega arith in
@@ -51,7 +61,8 @@ places-length : (services : List ServiceEntry) (k n : ℕ) → length (placesFro
 places-length services k zero = refl
 places-length services k (suc n) = ap suc (places-length services (k + 1) n)
 
-one-more : (services : List ServiceEntry) (k : ℕ) → placesFrom services 0 k ++ getD services k filler ∷ [] ≡ placesFrom services 0 (k + 1)
+one-more : (services : List ServiceEntry) (k : ℕ)
+    → placesFrom services 0 k ++ getD services k filler ∷ [] ≡ placesFrom services 0 (k + 1)
 one-more services k =
     let zero-first : k ≡ 0 + k = omega arith in
     ap (λ (j : ℕ). placesFrom services 0 k ++ getD services j filler ∷ []) zero-first
@@ -73,8 +84,10 @@ module _ (k : ℕ) (services : List ServiceEntry) (buffer : List ℕ) where
   unfolding entriesPut
   put-none = sym (over-nil 2 buffer)
 
-  pub put-more : (d : ServiceEntry) → k < length services → sectionLength k + 7 ≤ length buffer → writable (getD services k d .service) ≡ true
-      → put (sectionLength k) (sevenOf (getD services k d)) (entriesPut k services buffer) ≡ entriesPut (k + 1) services buffer
+  pub put-more : (d : ServiceEntry) → k < length services → sectionLength k + 7 ≤ length buffer
+      → writable (getD services k d .service) ≡ true
+      → put (sectionLength k) (sevenOf (getD services k d)) (entriesPut k services buffer)
+      ≡ entriesPut (k + 1) services buffer
   unfolding entriesPut
   put-more d h fits can =
       let bytes : List ℕ = entryListBytes (placesFrom services 0 k) in
@@ -89,13 +102,15 @@ module _ (k : ℕ) (services : List ServiceEntry) (buffer : List ℕ) where
       ∙ ap (λ (b : List ℕ). over 2 b buffer)
       (sym (bytes-more (placesFrom services 0 k) e) ∙ ap entryListBytes (one-more services k)))
 
-  pub put-all : (count : ℕ) → k ≡ count → entriesPut k services buffer ≡ over 2 (entryListBytes (placesFrom services 0 count)) buffer
+  pub put-all : (count : ℕ) → k ≡ count
+      → entriesPut k services buffer ≡ over 2 (entryListBytes (placesFrom services 0 count)) buffer
   unfolding entriesPut
   put-all count h = rw h
 
 -- a section's own two bytes, then its entries
 pub head-and-entries : (l : ServiceInfo) (buffer : List ℕ) → 2 ≤ length buffer
-    → over 2 (entryListBytes (counted l)) (put 0 (servicesId ∷ sectionByte l ∷ []) buffer) ≡ over 0 (sectionBytes l) buffer
+    → over 2 (entryListBytes (counted l)) (put 0 (servicesId ∷ sectionByte l ∷ []) buffer)
+    ≡ over 0 (sectionBytes l) buffer
 unfolding sectionBytes
 head-and-entries l buffer h =
     rw (put-fits 0 (servicesId ∷ sectionByte l ∷ []) buffer h)
@@ -113,17 +128,21 @@ both-hold true true h = (refl, refl)
 both-hold true false h = absurd (false≢true h)
 both-hold false entries h = absurd (false≢true h)
 
-value-parts : (l : ServiceInfo) → verdict (valueChecks l) ≡ cond (leb (l .count) 15) (cond (allWritable (counted l)) clear (broken NotWritable)) (broken WouldOverflow)
+value-parts : (l : ServiceInfo)
+    → verdict (valueChecks l)
+    ≡ cond (leb (l .count) 15) (cond (allWritable (counted l)) clear (broken NotWritable)) (broken WouldOverflow)
 value-parts l = ap (λ (v : Verdict). cond (leb (l .count) 15) v (broken WouldOverflow)) (entries-verdict (counted l))
 
-pub value-done : (l : ServiceInfo) → eqb (valueAnswer l .number) 0 ≡ true → (l .count ≤ 15) × (allWritable (counted l) ≡ true)
+pub value-done : (l : ServiceInfo) → eqb (valueAnswer l .number) 0 ≡ true
+    → (l .count ≤ 15) × (allWritable (counted l) ≡ true)
 unfolding valueAnswer
 value-done l h =
     let both = both-hold (leb (l .count) 15) (allWritable (counted l)) (rw (value-parts l) at h) in
     (leb-true _ _ (both .0), both .1)
 
 -- and that its section has a length
-pub value-length : (l : ServiceInfo) → eqb (valueAnswer l .number) 0 ≡ true → byteLen l ≡ done (sectionLength (l .count))
+pub value-length : (l : ServiceInfo) → eqb (valueAnswer l .number) 0 ≡ true
+    → byteLen l ≡ done (sectionLength (l .count))
 value-length l h = simp (le-leb _ _ (value-done l h .0))
 
 pub value-clear : (l : ServiceInfo) → eqb (valueAnswer l .number) 0 ≡ true → verdict (valueChecks l) ≡ clear
@@ -144,7 +163,8 @@ module _ (l : ServiceInfo) (buffer : List ℕ) where
     pub section-fits : sectionLength (l .count) ≤ length buffer
         → Leaves (sectionWritten l buffer) (done (sectionLength (l .count))) (over 0 (sectionBytes l) buffer)
     unfolding sectionWritten
-    section-fits h = all-fits (valueChecks l) (sectionLength (l .count)) (sectionBytes l) buffer right (section-length l) h
+    section-fits h =
+        all-fits (valueChecks l) (sectionLength (l .count)) (sectionBytes l) buffer right (section-length l) h
 
 -- where the writer answers 0 the value's tests are clear, and the section stands at the start of the buffer
 pub written-done : (l : ServiceInfo) (buffer : List ℕ) → eqb (sectionWritten l buffer .answer .number) 0 ≡ true

@@ -19,7 +19,8 @@ use Rattle.service_entry.specs.declared.entry.ServiceEntry.{ServiceEntry}
 use Rattle.service_list.specs.declared.list.ServiceInfo.{ServiceInfo}
 
 -- an entry that is there is there whatever would stand in its place
-pub same-place : (services : List ServiceEntry) (k : ℕ) (d e : ServiceEntry) → k < length services → getD services k d ≡ getD services k e
+pub same-place : (services : List ServiceEntry) (k : ℕ) (d e : ServiceEntry) → k < length services
+    → getD services k d ≡ getD services k e
 same-place [] k d e h = absurd (not-suc-le-zero h)
 same-place (x ∷ xs) zero d e h = refl
 same-place (x ∷ xs) (suc k) d e h = same-place xs k d e (le-of-suc-le-suc h)
@@ -33,7 +34,8 @@ module _ (k count : ℕ) (services : List ServiceEntry) where
   unfolding ahead
   ahead-first = rw (sub-zero count)
 
-  ahead-one : k < count → ahead k count services ≡ (writable (getD services k filler .service) && ahead (k + 1) count services)
+  ahead-one : k < count
+      → ahead k count services ≡ (writable (getD services k filler .service) && ahead (k + 1) count services)
   unfolding ahead allWritable
   ahead-one h =
       let n : count - k ≡ suc (count - (k + 1)) = omega arith in
@@ -43,12 +45,15 @@ module _ (k count : ℕ) (services : List ServiceEntry) where
     pub ahead-stops : writable (getD services k d .service) ≡ false → ahead k count services ≡ false
     ahead-stops w = rw (ahead-one in-count, ← same-place services k d filler in-places, w)
 
-    pub ahead-goes-on : writable (getD services k d .service) ≡ true → ahead k count services ≡ ahead (k + 1) count services
+    pub ahead-goes-on : writable (getD services k d .service) ≡ true
+        → ahead k count services ≡ ahead (k + 1) count services
     ahead-goes-on w = rw (ahead-one in-count, ← same-place services k d filler in-places, w)
 
     -- where all of them can be written, this one can, and so can those behind it
     pub ahead-here : ahead k count services ≡ true → writable (getD services k d .service) ≡ true
-    ahead-here h = rw (same-place services k d filler in-places) (and-left _ (ahead (k + 1) count services) (sym (ahead-one in-count) ∙ h))
+    ahead-here h =
+        rw (same-place services k d filler in-places)
+        (and-left _ (ahead (k + 1) count services) (sym (ahead-one in-count) ∙ h))
 
     pub ahead-next : ahead k count services ≡ true → ahead (k + 1) count services ≡ true
     ahead-next h = and-right (writable (getD services k filler .service)) _ (sym (ahead-one in-count) ∙ h)
@@ -60,10 +65,12 @@ module _ (k count : ℕ) (services : List ServiceEntry) where
       rw n
 
 -- the entries' checks come to one test
-pub entries-verdict : (es : List ServiceEntry) → verdict (entryWriteChecks es) ≡ cond (allWritable es) clear (broken NotWritable)
+pub entries-verdict : (es : List ServiceEntry)
+    → verdict (entryWriteChecks es) ≡ cond (allWritable es) clear (broken NotWritable)
 unfolding allWritable
 entries-verdict [] = refl
-entries-verdict (e ∷ es) = step (writable (e .service)) (allWritable es) (verdict (entryWriteChecks es)) (entries-verdict es)
+entries-verdict (e ∷ es) =
+    step (writable (e .service)) (allWritable es) (verdict (entryWriteChecks es)) (entries-verdict es)
   where
     step : (w ws : Bool) (v : Verdict) → v ≡ cond ws clear (broken NotWritable)
         → cond w v (broken NotWritable) ≡ cond (w && ws) clear (broken NotWritable)

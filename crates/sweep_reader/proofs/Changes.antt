@@ -15,9 +15,11 @@ use Rattle.reader.specs.declared.parser.CDPParserRead.{CDPParserRead}
 use Rattle.sweep_reader.specs.declared.change.Change.{Change}
 use Rattle.sweep_reader.specs.declared.read.Tally.{Tally}
 
-pub packet-read : (t : Tally) (held : CDPParser) (p captions filled after : List ℕ) (r : CDPParserRead) (digest accepted : ℕ)
+pub packet-read : (t : Tally) (held : CDPParser) (p captions filled after : List ℕ) (r : CDPParserRead)
+    (digest accepted : ℕ)
     → filled ≡ replicate (length captions) 0xA5 → r ≡ read held p (length filled) → after ≡ bufferAfter p filled
-    → digest ≡ allFed (readerFed (answerFed (t .digest) (r .answer)) (r .parser)) after → accepted ≡ countedIn (t .accepted) (r .answer)
+    → digest ≡ allFed (readerFed (answerFed (t .digest) (r .answer)) (r .parser)) after
+    → accepted ≡ countedIn (t .accepted) (r .answer)
     → (tally digest accepted ≡ packetTallied t held p captions) × (after ≡ captionsAfter p captions)
 unfolding packetTallied tallied
 packet-read t held p captions filled after r digest accepted f e a d n =
@@ -32,14 +34,18 @@ module _ (held : CDPParser) (change : Change) (s : Stand) where
   unfolding valuesAfter
   values-none = refl
 
-  pub values-more : (n : ℕ) (t u : Tally) (p q captions after : List ℕ) → stand t p captions ≡ valuesAfter held change s n
-      → u ≡ packetTallied t held (changedPacket change n p) captions → q ≡ changedPacket change n p → after ≡ captionsAfter (changedPacket change n p) captions
+  pub values-more : (n : ℕ) (t u : Tally) (p q captions after : List ℕ)
+      → stand t p captions ≡ valuesAfter held change s n
+      → u ≡ packetTallied t held (changedPacket change n p) captions → q ≡ changedPacket change n p
+      → after ≡ captionsAfter (changedPacket change n p) captions
       → stand u q after ≡ valuesAfter held change s (n + 1)
   unfolding valuesAfter
   values-more n t u p q captions after h e f g = rw (e, f, g, add-one n, ← h)
 
-  pub values-all : (n : ℕ) (t : Tally) (p captions : List ℕ) → stand t p captions ≡ valuesAfter held change s n → n ≡ 256
-      → (t ≡ valuesAfter held change s 256 .tally) × ((p ≡ valuesAfter held change s 256 .packet) × (captions ≡ valuesAfter held change s 256 .captions))
+  pub values-all : (n : ℕ) (t : Tally) (p captions : List ℕ) → stand t p captions ≡ valuesAfter held change s n
+      → n ≡ 256
+      → (t ≡ valuesAfter held change s 256 .tally)
+      × ((p ≡ valuesAfter held change s 256 .packet) × (captions ≡ valuesAfter held change s 256 .captions))
   values-all n t p captions h e =
       let all : stand t p captions ≡ valuesAfter held change s 256 = rw e at h in
       (ap (λ (x : Stand). x .tally) all, (ap (λ (x : Stand). x .packet) all, ap (λ (x : Stand). x .captions) all))

@@ -24,7 +24,8 @@ entries-more packet k = rw (add-one k)
 -- a packet that is put, and then finished where it stands
 pub packet-put : (r : Recipe) (end : ℕ) (buffer after done : List ℕ) → PutInRoom 0 (partsMade r) buffer end after
     → done ≡ finished (r .behind) (take (end - 0) after)
-    → (end ≡ length (packetMade r (length buffer))) × (done ++ drop (end - 0) after ≡ over 0 (packetMade r (length buffer)) buffer)
+    → (end ≡ length (packetMade r (length buffer)))
+    × (done ++ drop (end - 0) after ≡ over 0 (packetMade r (length buffer)) buffer)
 unfolding packetMade
 packet-put r end buffer after done p e =
     let w : List ℕ = take (length buffer) (partsMade r) in

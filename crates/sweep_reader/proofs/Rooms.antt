@@ -7,7 +7,18 @@ use Prim.Native.Nat.{ℕ, zero, suc, _+_, _-_, _≤_, _<_}
 use native.Mathlib.Nat.{eq-zero-or-pos, sub-zero, zero-add}
 use native.Mathlib.Numerals.{add-one}
 use native.Mathlib.Omega.{arith}
-use lib.ListN.{length, getD, replicate, set, take, drop, length-append, length-drop, length-take, replicate-append-replicate}
+use lib.ListN.{
+  length,
+  getD,
+  replicate,
+  set,
+  take,
+  drop,
+  length-append,
+  length-drop,
+  length-take,
+  replicate-append-replicate,
+}
 use lib.Seq.{append-snoc, drop-at, set-out, set-split, take-all, take-suc}
 use Rattle.basis.proofs.Puts.{over-nil, over-over, take-over}
 use Rattle.basis.specs.Bytes.{over}
@@ -34,14 +45,16 @@ module _ (at : ℕ) (xs buffer : List ℕ) where
 
 -- the second run goes where the first one ends
 module _ (at : ℕ) (xs ys buffer after : List ℕ) (same : length after ≡ length buffer) where
-  both-fit : fittingPart at xs buffer ++ fittingPart (at + length (fittingPart at xs buffer)) ys after ≡ fittingPart at (xs ++ ys) buffer
+  both-fit : fittingPart at xs buffer ++ fittingPart (at + length (fittingPart at xs buffer)) ys after
+      ≡ fittingPart at (xs ++ ys) buffer
   unfolding fittingPart
   both-fit =
       let n : ℕ = length buffer - at in
       let k : length after - (at + length (take n xs)) ≡ n - length xs = simp length-take (omega arith) in
       rw k (take-join n xs ys)
 
-overs-none : (at : ℕ) (xs ys buffer : List ℕ) → xs ≡ [] → ys ≡ [] → over (at + length xs) ys (over at xs buffer) ≡ over at (xs ++ ys) buffer
+overs-none : (at : ℕ) (xs ys buffer : List ℕ) → xs ≡ [] → ys ≡ []
+    → over (at + length xs) ys (over at xs buffer) ≡ over at (xs ++ ys) buffer
 overs-none at xs ys buffer e f = rw (e, f) (over-nil (at + 0) (over at [] buffer))
 
 -- none
@@ -50,7 +63,8 @@ unfolding fittingPart
 no-bytes at buffer = take-all (length buffer - at) [] (omega arith)
 
 pub nothing : (at : ℕ) (buffer : List ℕ) → PutInRoom at [] buffer at buffer
-nothing at buffer = record { place = rw (no-bytes at buffer) (omega arith); left = rw (no-bytes at buffer) (sym (over-nil at buffer)) }
+nothing at buffer =
+    record { place = rw (no-bytes at buffer) (omega arith); left = rw (no-bytes at buffer) (sym (over-nil at buffer)) }
 
 -- one, where there is room and where there is none
 module _ (at b : ℕ) (buffer : List ℕ) where
@@ -82,7 +96,8 @@ module _ (at b : ℕ) (buffer : List ℕ) where
   put-set p = p .left ∙ sym set-fits
 
 -- others behind them
-pub behind : {at mid end : ℕ} {xs ys buffer between after : List ℕ} → PutInRoom at xs buffer mid between → PutInRoom mid ys between end after
+pub behind : {at mid end : ℕ} {xs ys buffer between after : List ℕ} → PutInRoom at xs buffer mid between
+    → PutInRoom mid ys between end after
     → PutInRoom at (xs ++ ys) buffer end after
 behind {at} {mid} {end} {xs} {ys} {buffer} {between} {after} p q =
     let w : List ℕ = fittingPart at xs buffer in
@@ -93,7 +108,8 @@ behind {at} {mid} {end} {xs} {ys} {buffer} {between} {after} p q =
     let after-is : after ≡ over (at + length w) v between = rw (p .place) at (q .left) in
     let joined : over (at + length w) v (over at w buffer) ≡ over at (w ++ v) buffer =
     ⊎-elim
-    (λ h. overs-none at w v buffer (none-fits at xs buffer h) (none-fits (at + length w) ys between (omega (arith, h, same))))
+    (λ h. overs-none at w v buffer (none-fits at xs buffer h)
+    (none-fits (at + length w) ys between (omega (arith, h, same))))
     (λ h. over-over at w v buffer (omega (arith, h)))
     (eq-zero-or-pos (length buffer - at)) in
     record {
@@ -102,7 +118,8 @@ behind {at} {mid} {end} {xs} {ys} {buffer} {between} {after} p q =
     }
 
 -- the same where both runs are another
-pub behind-as : {at mid end : ℕ} {xs ys zs buffer between after : List ℕ} → PutInRoom at xs buffer mid between → PutInRoom mid ys between end after → xs ++ ys ≡ zs
+pub behind-as : {at mid end : ℕ} {xs ys zs buffer between after : List ℕ} → PutInRoom at xs buffer mid between
+    → PutInRoom mid ys between end after → xs ++ ys ≡ zs
     → PutInRoom at zs buffer end after
 behind-as p q e = rw e at (behind p q)
 
@@ -137,5 +154,6 @@ module _ {end : ℕ} {bytes buffer after : List ℕ} (p : PutInRoom 0 bytes buff
       let w : List ℕ = take (length buffer) bytes in
       let w-end : 0 + length w ≡ end = omega (arith, put-size) in
       let other-end : 0 + length other ≡ end = omega (arith, same) in
-      let rest : drop end after ≡ drop (0 + length w) buffer = ap (drop end) whole ∙ drop-at w (drop (0 + length w) buffer) end (sym put-size) in
+      let rest : drop end after ≡ drop (0 + length w) buffer =
+      ap (drop end) whole ∙ drop-at w (drop (0 + length w) buffer) end (sym put-size) in
       rw (rest, w-end, other-end)

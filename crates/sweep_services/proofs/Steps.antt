@@ -31,7 +31,8 @@ module _ (count place : ℕ) where
     unfolding goodByte
     byte-second h = simp (ne-eqb _ _ other, eq-eqb _ _ h)
 
-    pub byte-inside : (place ≡ 1 → ⊥) → place < goodSize count → entryByte ((place - 2) / 7) ((place - 2) % 7) ≡ goodByte count place
+    pub byte-inside : (place ≡ 1 → ⊥) → place < goodSize count
+        → entryByte ((place - 2) / 7) ((place - 2) % 7) ≡ goodByte count place
     unfolding goodByte
     byte-inside g h = simp (ne-eqb _ _ other, ne-eqb _ _ g, lt-ltb _ _ h)
 
@@ -44,7 +45,8 @@ module _ (kind digest n : ℕ) (r : ServiceEntryRead) (read : r ≡ entryRead (e
   unfolding entryStep
   entry-refused h = rw (← read, h)
 
-  pub entry-done : eqb (r .answer .number) 0 ≡ true → entryFed (fed digest (r .answer .number)) (r .entry) ≡ entryStep kind digest n
+  pub entry-done : eqb (r .answer .number) 0 ≡ true
+      → entryFed (fed digest (r .answer .number)) (r .entry) ≡ entryStep kind digest n
   unfolding entryStep
   entry-done h = rw (← read, h)
 
@@ -53,6 +55,7 @@ module _ (digest : ℕ) (r : ServiceInfoRead) where
   unfolding sectionFed
   section-refused h = rw h
 
-  pub section-done : eqb (r .answer .number) 0 ≡ true → listFed (lowBytesFed digest (r .answer)) (r .list) ≡ sectionFed digest r
+  pub section-done : eqb (r .answer .number) 0 ≡ true
+      → listFed (lowBytesFed digest (r .answer)) (r .list) ≡ sectionFed digest r
   unfolding sectionFed
   section-done h = rw h

@@ -16,10 +16,12 @@ module _ (hours digest n : ℕ) (w : TimeCodeWritten) (written : w ≡ timeWritt
   unfolding nthTimeFed
   time-refused h = rw (← written, h)
 
-  pub time-done : eqb (w .answer .number) 0 ≡ true → allFed (fed digest (w .answer .number)) (w .bytes) ≡ nthTimeFed hours digest n
+  pub time-done : eqb (w .answer .number) 0 ≡ true
+      → allFed (fed digest (w .answer .number)) (w .bytes) ≡ nthTimeFed hours digest n
   unfolding nthTimeFed
   time-done h = rw (← written, h)
 
-pub sequence-done : (high digest low : ℕ) (made : List ℕ) → made ≡ sequenceBytes (nthSequence high low) → bytesFed digest made ≡ nthSequenceFed high digest low
+pub sequence-done : (high digest low : ℕ) (made : List ℕ) → made ≡ sequenceBytes (nthSequence high low)
+    → bytesFed digest made ≡ nthSequenceFed high digest low
 unfolding nthSequenceFed
 sequence-done high digest low made e = rw e

@@ -11,8 +11,35 @@ use Rattle.service_list.specs.ServiceList.{list}
 use Rattle.values_time.specs.Time.{timeAbsent, timeCode, timePresent}
 use Rattle.tape.specs.Held.{clockAt, heldTimeAt, timeWord}
 use Rattle.tape.specs.Lent.{roomOf}
-use Rattle.tape.specs.Lists.{digitalAt, entriesAt, entriesFrom, entryAt, entryWord, fieldAt, inLanguage, lastOf, listAt, listCounting, listWord}
-use Rattle.tape.specs.Words.{byteAt, bytesAt, bytesWord, decimal, digitOf, digitsOf, flagAt, markAt, nowhere, numberAt, numberWord, pairsAt, pairsFrom, smallAt}
+use Rattle.tape.specs.Lists.{
+  digitalAt,
+  entriesAt,
+  entriesFrom,
+  entryAt,
+  entryWord,
+  fieldAt,
+  inLanguage,
+  lastOf,
+  listAt,
+  listCounting,
+  listWord,
+}
+use Rattle.tape.specs.Words.{
+  byteAt,
+  bytesAt,
+  bytesWord,
+  decimal,
+  digitOf,
+  digitsOf,
+  flagAt,
+  markAt,
+  nowhere,
+  numberAt,
+  numberWord,
+  pairsAt,
+  pairsFrom,
+  smallAt,
+}
 
 -- `P 008 966`: zeros in front are allowed, and a digit too many is left
 abbrev packetLine : List ℕ
@@ -36,12 +63,14 @@ unfolding numberAt digitsOf digitOf decimal
 too-large = refl
 
 -- `d:1:0:0:656e67`
-digital : entryAt (100 ∷ 58 ∷ 49 ∷ 58 ∷ 48 ∷ 58 ∷ 48 ∷ 58 ∷ 54 ∷ 53 ∷ 54 ∷ 101 ∷ 54 ∷ 55 ∷ []) 0 ≡ entryWord (entry (0x65 ∷ 0x6e ∷ 0x67 ∷ []) (Service (digitalEntry 1 false false))) 14
+digital : entryAt (100 ∷ 58 ∷ 49 ∷ 58 ∷ 48 ∷ 58 ∷ 48 ∷ 58 ∷ 54 ∷ 53 ∷ 54 ∷ 101 ∷ 54 ∷ 55 ∷ []) 0
+    ≡ entryWord (entry (0x65 ∷ 0x6e ∷ 0x67 ∷ []) (Service (digitalEntry 1 false false))) 14
 unfolding entryAt digitalAt inLanguage smallAt numberAt digitsOf digitOf decimal flagAt byteAt markAt
 digital = refl
 
 -- `1,0,1;f:2:656e67`
-listed : listAt (49 ∷ 44 ∷ 48 ∷ 44 ∷ 49 ∷ 59 ∷ 102 ∷ 58 ∷ 50 ∷ 58 ∷ 54 ∷ 53 ∷ 54 ∷ 101 ∷ 54 ∷ 55 ∷ []) 0 ≡ listWord (list true false true (filled (entry (0x65 ∷ 0x6e ∷ 0x67 ∷ []) (Field false) ∷ [])) 1) 16
+listed : listAt (49 ∷ 44 ∷ 48 ∷ 44 ∷ 49 ∷ 59 ∷ 102 ∷ 58 ∷ 50 ∷ 58 ∷ 54 ∷ 53 ∷ 54 ∷ 101 ∷ 54 ∷ 55 ∷ []) 0
+    ≡ listWord (list true false true (filled (entry (0x65 ∷ 0x6e ∷ 0x67 ∷ []) (Field false) ∷ [])) 1) 16
 unfolding listAt entriesAt entriesFrom lastOf listCounting entryAt fieldAt inLanguage flagAt byteAt digitOf markAt
 listed = refl
 
@@ -50,6 +79,7 @@ no-time : heldTimeAt (45 ∷ []) 0 ≡ timeWord timeAbsent 1
 unfolding heldTimeAt markAt
 no-time = refl
 
-time : heldTimeAt (49 ∷ 58 ∷ 50 ∷ 58 ∷ 51 ∷ 58 ∷ 52 ∷ 58 ∷ 48 ∷ 58 ∷ 49 ∷ []) 0 ≡ timeWord (timePresent (timeCode 1 2 3 4 false true)) 11
+time : heldTimeAt (49 ∷ 58 ∷ 50 ∷ 58 ∷ 51 ∷ 58 ∷ 52 ∷ 58 ∷ 48 ∷ 58 ∷ 49 ∷ []) 0
+    ≡ timeWord (timePresent (timeCode 1 2 3 4 false true)) 11
 unfolding heldTimeAt clockAt smallAt numberAt digitsOf digitOf decimal flagAt markAt
 time = refl

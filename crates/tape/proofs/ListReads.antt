@@ -31,14 +31,17 @@ module _ (start change complete : Bool) where
       rw (all, more) (filled-more es e room)
   places-more es e false h = ap filled (sym (take-append-le 15 es (e ∷ []) (ltb-false _ _ h)))
 
-  counted-more : (es : List ServiceEntry) (e : ServiceEntry) → withOneMore (listCounting start change complete es) e ≡ listCounting start change complete (es ++ e ∷ [])
+  counted-more : (es : List ServiceEntry) (e : ServiceEntry)
+      → withOneMore (listCounting start change complete es) e ≡ listCounting start change complete (es ++ e ∷ [])
   unfolding withOneMore listCounting
   counted-more es e =
-      ap₂ (λ (s : List ServiceEntry) (n : ℕ). record { start = start; change = change; complete = complete; services = s; count = n })
+      ap₂ (λ (s : List ServiceEntry) (n : ℕ).
+      record { start = start; change = change; complete = complete; services = s; count = n })
       (places-more es e (ltb (length es) 15) refl) (longer es e)
 
 -- the entries before a place are held, and those from there on are left
-pub record EntriesRead (line : List ℕ) (from : ℕ) (start change complete : Bool) (l : ServiceInfo) (at k : ℕ) : Type 0 where
+pub record EntriesRead (line : List ℕ) (from : ℕ) (start change complete : Bool)
+    (l : ServiceInfo) (at k : ℕ) : Type 0 where
   pub before : List ServiceEntry
   pub within : k ≤ length line
   pub few : length before ≡ k
@@ -53,11 +56,13 @@ module _ (line : List ℕ) (at : ℕ) where
   entries-stop (suc n) h = simp (eq-eqb _ _ h)
 
   entries-more : (n : ℕ) → (markAt line at 59 ≡ nowhere → ⊥)
-      → entriesFrom (suc n) line at ≡ entryAt line (markAt line at 59) ∷ entriesFrom n line (entryAt line (markAt line at 59) .next)
+      → entriesFrom (suc n) line at
+      ≡ entryAt line (markAt line at 59) ∷ entriesFrom n line (entryAt line (markAt line at 59) .next)
   unfolding entriesFrom
   entries-more n h = simp (ne-eqb _ _ h)
 
-pub entries-none : (line : List ℕ) (from : ℕ) (start change complete : Bool) (l : ServiceInfo) → l ≡ listCounting start change complete []
+pub entries-none : (line : List ℕ) (from : ℕ) (start change complete : Bool) (l : ServiceInfo)
+    → l ≡ listCounting start change complete []
     → EntriesRead line from start change complete l from 0
 entries-none line from start change complete l e =
     let same : length line - 0 ≡ length line = omega arith in
@@ -77,7 +82,9 @@ module _ {line : List ℕ} {from : ℕ} {start change complete : Bool} {l : Serv
   unfolding listCounting
   entries-count = rw (so-far .held) (so-far .few)
 
-  pub entries-next : (behind : ℕ) (word : EntryWord) (more : ServiceInfo) → k < length line → behind ≡ markAt line at 59 → (behind ≡ nowhere → ⊥)
+  pub entries-next : (behind : ℕ) (word : EntryWord) (more : ServiceInfo) → k < length line
+      → behind ≡ markAt line at 59
+      → (behind ≡ nowhere → ⊥)
       → word ≡ entryAt line behind → more ≡ withOneMore l (word .entry)
       → EntriesRead line from start change complete more (word .next) (k + 1)
   unfolding lastOf
@@ -90,7 +97,10 @@ module _ {line : List ℕ} {from : ℕ} {start change complete : Bool} {l : Serv
         before = so-far .before ++ word .entry ∷ [];
         within = omega arith;
         few = simp length-append (omega (arith, so-far .few));
-        held = m ∙ ap (λ (s : ServiceInfo). withOneMore s (word .entry)) (so-far .held) ∙ counted-more start change complete (so-far .before) (word .entry);
+        held =
+            m
+            ∙ ap (λ (s : ServiceInfo). withOneMore s (word .entry)) (so-far .held)
+            ∙ counted-more start change complete (so-far .before) (word .entry);
         all =
             so-far .all
             ∙ ap (λ (ws : List EntryWord). so-far .before ++ heldBy ws) step
@@ -103,9 +113,11 @@ module _ {line : List ℕ} {from : ℕ} {start change complete : Bool} {l : Serv
   entries-all none =
       let es : heldBy (entriesFrom (length line) line from) ≡ so-far .before =
       so-far .all ∙ ap (λ (ws : List EntryWord). so-far .before ++ heldBy ws) none ∙ append-nil (so-far .before) in
-      ap₂ listWord (so-far .held ∙ ap (listCounting start change complete) (sym es)) (sym (so-far .place ∙ ap (lastOf at) none))
+      ap₂ listWord (so-far .held ∙ ap (listCounting start change complete) (sym es))
+      (sym (so-far .place ∙ ap (lastOf at) none))
 
-  pub entries-stopped : (behind : ℕ) → behind ≡ markAt line at 59 → behind ≡ nowhere → listWord l at ≡ entriesAt line from start change complete
+  pub entries-stopped : (behind : ℕ) → behind ≡ markAt line at 59 → behind ≡ nowhere
+      → listWord l at ≡ entriesAt line from start change complete
   entries-stopped behind b n = entries-all (entries-stop line at (length line - k) (rw b at n))
 
   pub entries-full : length line ≤ k → listWord l at ≡ entriesAt line from start change complete

@@ -13,7 +13,26 @@ use lib.ListN.{length, set, take, drop, drop-of-length-le, length-set, List·get
 use lib.Seq.{drop-cons, take-suc-set, drop-set-lt}
 use Rattle.basis.proofs.Puts.{over-nil}
 use Rattle.basis.specs.Bytes.{byte, over}
-use Rattle.tape.specs.Words.{byteAt, byteWord, bytesAt, bytesIn, bytesWord, capped, decimal, digitOf, digitsOf, flagAt, flagWord, markAt, nowhere, numberAt, numberOfDigits, numberWord, pairsAt, pairsFrom}
+use Rattle.tape.specs.Words.{
+  byteAt,
+  byteWord,
+  bytesAt,
+  bytesIn,
+  bytesWord,
+  capped,
+  decimal,
+  digitOf,
+  digitsOf,
+  flagAt,
+  flagWord,
+  markAt,
+  nowhere,
+  numberAt,
+  numberOfDigits,
+  numberWord,
+  pairsAt,
+  pairsFrom,
+}
 use Rattle.tape.specs.declared.words.ByteWord.{ByteWord}
 use Rattle.tape.specs.declared.words.BytesWord.{BytesWord}
 use Rattle.tape.specs.declared.words.NumberWord.{NumberWord}
@@ -37,7 +56,8 @@ module _ (line : List ℕ) (at mark : ℕ) where
   unfolding markAt
   mark-byte h = by-test (ltb at (length line)) (eqb (byte line at) mark) h refl
     where
-      by-test : (a b : Bool) → (cond (a && b) (at + 1) nowhere ≡ nowhere → ⊥) → eqb (byte line at) mark ≡ b → byte line at ≡ mark
+      by-test : (a b : Bool) → (cond (a && b) (at + 1) nowhere ≡ nowhere → ⊥) → eqb (byte line at) mark ≡ b
+          → byte line at ≡ mark
       by-test true true n e = eqb-true _ _ e
       by-test true false n e = absurd (n refl)
       by-test false b n e = absurd (n refl)
@@ -138,7 +158,8 @@ pub digits-none : (line : List ℕ) (from : ℕ) → DigitsRead line from 0 from
 digits-none line from = record { small = omega arith; number = refl; place = refl }
 
 module _ {line : List ℕ} {from value at : ℕ} (so-far : DigitsRead line from value at) where
-  pub digits-next : (digit next : ℕ) → at < length line → digit ≡ digitOf (byte line at) → digit ≤ 9 → next ≡ capped (value * 10 + digit)
+  pub digits-next : (digit next : ℕ) → at < length line → digit ≡ digitOf (byte line at) → digit ≤ 9
+      → next ≡ capped (value * 10 + digit)
       → DigitsRead line from next (at + 1)
   unfolding decimal
   digits-next digit next h e d n =
@@ -158,8 +179,10 @@ module _ {line : List ℕ} {from value at : ℕ} (so-far : DigitsRead line from 
   digits-all : digitsOf (drop at line) ≡ []
       → (value ≡ capped (decimal 0 (digitsOf (drop from line)))) × (at ≡ from + length (digitsOf (drop from line)))
   unfolding decimal
-  digits-all none =
-      (sym (so-far .number ∙ ap (λ (ds : List ℕ). capped (decimal value ds)) none ∙ min-eq-left (so-far .small)), omega (arith, so-far .place, ap length none))
+  digits-all none = (
+    sym (so-far .number ∙ ap (λ (ds : List ℕ). capped (decimal value ds)) none ∙ min-eq-left (so-far .small)),
+    omega (arith, so-far .place, ap length none),
+  )
 
   pub digits-stopped : at < length line → 9 < digitOf (byte line at)
       → (value ≡ capped (decimal 0 (digitsOf (drop from line)))) × (at ≡ from + length (digitsOf (drop from line)))
@@ -179,7 +202,8 @@ module _ (at most : ℕ) where
   over-of [] h = refl
   over-of (d ∷ ds) h = simp (lt-leb _ _ h)
 
-  found-of : (ds : List ℕ) → (length ds ≡ 0 → ⊥) → decimal 0 ds ≤ most → numberWord (decimal 0 ds) (at + length ds) ≡ numberOfDigits ds at most
+  found-of : (ds : List ℕ) → (length ds ≡ 0 → ⊥) → decimal 0 ds ≤ most
+      → numberWord (decimal 0 ds) (at + length ds) ≡ numberOfDigits ds at most
   found-of [] n h = absurd (n refl)
   found-of (d ∷ ds) n h = simp (le-leb _ _ h)
 
@@ -192,7 +216,8 @@ module _ (at most : ℕ) where
       by-test true e = leb-true _ _ e
       by-test false e = omega arith
 
-module _ (line : List ℕ) (at most v n : ℕ) (value : v ≡ capped (decimal 0 (digitsOf (drop at line)))) (next : n ≡ at + length (digitsOf (drop at line))) where
+module _ (line : List ℕ) (at most v n : ℕ) (value : v ≡ capped (decimal 0 (digitsOf (drop at line))))
+    (next : n ≡ at + length (digitsOf (drop at line))) where
   pub number-none : n ≡ at → numberWord 0 nowhere ≡ numberAt line at most
   unfolding numberAt
   number-none h = none-of at most (digitsOf (drop at line)) (omega arith)
@@ -255,11 +280,13 @@ module _ (line : List ℕ) (at : ℕ) where
   pairs-more room h = simp (ne-eqb _ _ h)
 
 -- the first of some bytes put, and then the others
-over-first : (k v : ℕ) (vs buffer : List ℕ) → k < length buffer → over k (v ∷ vs) buffer ≡ over (k + 1) vs (set buffer k v)
+over-first : (k v : ℕ) (vs buffer : List ℕ) → k < length buffer
+    → over k (v ∷ vs) buffer ≡ over (k + 1) vs (set buffer k v)
 unfolding over
 over-first k v vs buffer h =
     let head : take (k + 1) (set buffer k v) ≡ take k buffer ++ v ∷ [] = rw (add-one k) (take-suc-set buffer k v h) in
-    let tail : drop (k + 1 + length vs) (set buffer k v) ≡ drop (k + 1 + length vs) buffer = drop-set-lt (k + 1 + length vs) buffer k v (omega arith) in
+    let tail : drop (k + 1 + length vs) (set buffer k v) ≡ drop (k + 1 + length vs) buffer =
+    drop-set-lt (k + 1 + length vs) buffer k v (omega arith) in
     let end : k + length (v ∷ vs) ≡ k + 1 + length vs = omega arith in
     rw (head, tail, end) (simp append-assoc)
 
@@ -282,7 +309,8 @@ pairs-none line from given₀ =
       put = rw all;
     }
 
-module _ {line : List ℕ} {from : ℕ} {given₀ given : List ℕ} {at k : ℕ} (so-far : PairsRead line from given₀ given at k) where
+module _ {line : List ℕ} {from : ℕ} {given₀ given : List ℕ} {at k : ℕ}
+    (so-far : PairsRead line from given₀ given at k) where
   pub pairs-next : (w : ByteWord) → k < length given₀ → w ≡ byteAt line at → (w .next ≡ nowhere → ⊥)
       → PairsRead line from given₀ (set given k (w .value)) (w .next) (k + 1)
   pairs-next w h e n =
@@ -325,11 +353,13 @@ module _ {line : List ℕ} {from : ℕ} {given₀ given : List ℕ} {at k : ℕ}
 
 -- the word of bytes, with the place behind a dash
 module _ (given line : List ℕ) (at dash : ℕ) (marked : dash ≡ markAt line at 45) where
-  pub bytes-dash : (dash ≡ nowhere → ⊥) → (bytesWord 0 dash ≡ bytesAt (length given) line at) × (given ≡ bytesIn given line at)
+  pub bytes-dash : (dash ≡ nowhere → ⊥)
+      → (bytesWord 0 dash ≡ bytesAt (length given) line at) × (given ≡ bytesIn given line at)
   unfolding bytesAt bytesIn
   bytes-dash h =
       let met : byte line at ≡ 45 = mark-byte line at 45 (rw marked at h) in
-      let none : pairsFrom (length given) line at ≡ [] = pairs-stop line at (length given) (rw (byte-dash line at met)) in
+      let none : pairsFrom (length given) line at ≡ [] =
+      pairs-stop line at (length given) (rw (byte-dash line at met)) in
       (rw marked (simp (ne-eqb _ _ (rw marked at h))), rw none (sym (over-nil 0 given)))
 
   module _ (no-dash : dash ≡ nowhere) (w : BytesWord) (all : w ≡ pairsAt (length given) line at) where

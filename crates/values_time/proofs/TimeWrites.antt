@@ -68,7 +68,8 @@ pub time-back : (t : TimeCode) → InRange t
     → timeRead (getD (timeBytes t) 0 0) (getD (timeBytes t) 1 0) (getD (timeBytes t) 2 0) (getD (timeBytes t) 3 0)
     ≡ record { answer = done 0; «time_code» = t }
 time-back t r =
-    sym (all-right _ _ _ _ (hours-fixed (t .hours) (r .hours)) (minutes-fixed (t .minutes) (r .minutes)) (frames-fixed (t .«drop_frame») (t .frames) (r .frames)))
+    sym (all-right _ _ _ _ (hours-fixed (t .hours) (r .hours)) (minutes-fixed (t .minutes) (r .minutes))
+    (frames-fixed (t .«drop_frame») (t .frames) (r .frames)))
     ∙ simp (
       digits-back 2 (t .hours) 3 (omega arith),
       digits-back 3 (t .minutes) 1 (omega arith),

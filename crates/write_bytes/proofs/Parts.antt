@@ -19,7 +19,15 @@ use Rattle.values_time.specs.Time.{timeBytes, timeWriteChecks, timeWritten}
 use Rattle.service_list.proofs.SectionWrites.{section-fits, section-length}
 use Rattle.service_list.specs.SectionWriting.{sectionBytes, sectionWritten, valueChecks}
 use Rattle.write_checks.specs.Checks.{packetLength, servicesWriteChecks, servicesLength, timeCodeWriteChecks, timeCodeLength}
-use Rattle.write_bytes.specs.PacketWriting.{captionsBytes, heldFlags, footerBytes, headerBytes, packetBytes, servicesBytes, timeCodeBytes}
+use Rattle.write_bytes.specs.PacketWriting.{
+  captionsBytes,
+  heldFlags,
+  footerBytes,
+  headerBytes,
+  packetBytes,
+  servicesBytes,
+  timeCodeBytes,
+}
 use Rattle.service_list.specs.declared.list.MaybeServiceInfo.{MaybeServiceInfo}
 use Rattle.service_list.specs.declared.list.ServiceInfo.{ServiceInfo}
 use Rattle.values.specs.declared.flags.Flags.{Flags}
@@ -47,7 +55,9 @@ module _ (time : MaybeTimeCode) (services : MaybeServiceInfo) where
   flags-without a = rw a
 
   pub flags-with : services .present ≡ true
-      → flags true (services .«service_info» .start) (services .«service_info» .change) (services .«service_info» .complete) ≡ heldFlags time services
+      → flags true (services .«service_info» .start) (services .«service_info» .change)
+      (services .«service_info» .complete)
+      ≡ heldFlags time services
   flags-with a = rw a
 
 module _ (at : ℕ) (buffer : List ℕ) where
@@ -55,10 +65,12 @@ module _ (at : ℕ) (buffer : List ℕ) where
       → PutAt at (sizeWhen present size) (cond present bytes []) buffer at buffer
   nothing-put present bytes size a = (rw a (omega arith), rw a (sym (over-nil at buffer)))
 
-  pub time-absent : (time : MaybeTimeCode) → time .present ≡ false → PutAt at (timeCodeLength time) (timeCodeBytes time) buffer at buffer
+  pub time-absent : (time : MaybeTimeCode) → time .present ≡ false
+      → PutAt at (timeCodeLength time) (timeCodeBytes time) buffer at buffer
   time-absent time a = nothing-put (time .present) (timeCodeId ∷ timeBytes (time .«time_code»)) 5 a
 
-  pub services-absent : (services : MaybeServiceInfo) → services .present ≡ false → PutAt at (servicesLength services) (servicesBytes services) buffer at buffer
+  pub services-absent : (services : MaybeServiceInfo) → services .present ≡ false
+      → PutAt at (servicesLength services) (servicesBytes services) buffer at buffer
   services-absent services a = nothing-put (services .present) (sectionBytes (services .«service_info»)) _ a
 
   module _ (time : MaybeTimeCode) (held : time .present ≡ true) (right : verdict (timeCodeWriteChecks time) ≡ clear)
@@ -76,24 +88,28 @@ module _ (at : ℕ) (buffer : List ℕ) where
         (rw held, rw (held, time-bytes) (put-put at (timeCodeId ∷ []) (timeBytes (time .«time_code»)) buffer fits))
 
   module _ (captions : List ℕ) (room : at + (2 + length captions) ≤ length buffer) where
-    pub captions-put : put (at + 2) captions (put at (captionsId ∷ (0xE0 + length captions / 3) ∷ []) buffer) ≡ over at (captionsBytes captions) buffer
+    pub captions-put : put (at + 2) captions (put at (captionsId ∷ (0xE0 + length captions / 3) ∷ []) buffer)
+        ≡ over at (captionsBytes captions) buffer
     captions-put = put-put at (captionsId ∷ (0xE0 + length captions / 3) ∷ []) captions buffer (omega arith)
 
   -- what stands from the place on, as the code lends it
   abbrev rest : List ℕ
   rest = take (length buffer - at) (drop at buffer)
 
-  module _ (services : MaybeServiceInfo) (held : services .present ≡ true) (right : verdict (servicesWriteChecks services) ≡ clear)
+  module _ (services : MaybeServiceInfo) (held : services .present ≡ true)
+      (right : verdict (servicesWriteChecks services) ≡ clear)
       (room : at + servicesLength services ≤ length buffer) where
     abbrev list : ServiceInfo
     list = services .«service_info»
 
-    pub services-put : PutAt at (servicesLength services) (servicesBytes services) buffer (at + sectionWritten list rest .answer .first)
+    pub services-put : PutAt at (servicesLength services) (servicesBytes services) buffer
+        (at + sectionWritten list rest .answer .first)
         (take at buffer ++ (sectionWritten list rest .buffer ++ drop (length buffer - at) (drop at buffer)))
     services-put =
         let own : verdict (valueChecks list) ≡ clear = when-there (services .present) (valueChecks list) held right in
         let fits : at + sectionLength (list .count) ≤ length buffer = rw held at room in
-        let long : length rest ≡ length buffer - at = length-take-le (length buffer - at) (drop at buffer) (omega (arith, length-drop at buffer)) in
+        let long : length rest ≡ length buffer - at =
+        length-take-le (length buffer - at) (drop at buffer) (omega (arith, length-drop at buffer)) in
         let left = section-fits list rest own (omega (arith, long)) in
         (rw (held, ← left .0), rw (held, ← left .1) (part-over at (sectionBytes list) buffer))
 
@@ -105,18 +121,22 @@ module _ (at : ℕ) (buffer : List ℕ) where
     before-checksum = take-put at footer buffer (omega arith)
 
     pub footer-put : (sum : ℕ) → sum ≡ negative (total (take (at + 3) (put at footer buffer)))
-        → put (at + 3) (sum ∷ []) (put at footer buffer) ≡ over at (footer ++ negative (total (take at buffer ++ footer)) ∷ []) buffer
+        → put (at + 3) (sum ∷ []) (put at footer buffer)
+        ≡ over at (footer ++ negative (total (take at buffer ++ footer)) ∷ []) buffer
     footer-put sum e =
         put-put at footer (sum ∷ []) buffer (omega arith)
-        ∙ ap (λ (n : ℕ). over at (footer ++ n ∷ []) buffer) (e ∙ ap (λ (xs : List ℕ). negative (total xs)) before-checksum)
+        ∙ ap (λ (n : ℕ). over at (footer ++ n ∷ []) buffer)
+        (e ∙ ap (λ (xs : List ℕ). negative (total xs)) before-checksum)
 
 -- bytes put right behind those that stand at the start
 behind : (xs ys buffer : List ℕ) (at : ℕ) → at ≡ length xs → over at ys (over 0 xs buffer) ≡ over 0 (xs ++ ys) buffer
 behind xs ys buffer at e =
-    ap (λ (n : ℕ). over n ys (over 0 xs buffer)) (e ∙ sym (zero-add (length xs))) ∙ over-over 0 xs ys buffer (omega arith)
+    ap (λ (n : ℕ). over n ys (over 0 xs buffer)) (e ∙ sym (zero-add (length xs)))
+    ∙ over-over 0 xs ys buffer (omega arith)
 
 -- the sizes of the parts are their lengths
-cond-length : (present : Bool) (bytes : List ℕ) (size : ℕ) → length bytes ≡ size → length (cond present bytes []) ≡ sizeWhen present size
+cond-length : (present : Bool) (bytes : List ℕ) (size : ℕ) → length bytes ≡ size
+    → length (cond present bytes []) ≡ sizeWhen present size
 cond-length true bytes size e = e
 cond-length false bytes size e = omega arith
 
@@ -125,9 +145,11 @@ time-length time = cond-length (time .present) (timeCodeId ∷ timeBytes (time .
 
 pub services-length : (services : MaybeServiceInfo) → length (servicesBytes services) ≡ servicesLength services
 services-length services =
-    cond-length (services .present) (sectionBytes (services .«service_info»)) (sectionLength (services .«service_info» .count)) (section-length (services .«service_info»))
+    cond-length (services .present) (sectionBytes (services .«service_info»))
+    (sectionLength (services .«service_info» .count)) (section-length (services .«service_info»))
 
-module _ (rate : Framerate) (sequence : ℕ) (time : MaybeTimeCode) (services : MaybeServiceInfo) (captions : List ℕ) where
+module _ (rate : Framerate) (sequence : ℕ) (time : MaybeTimeCode) (services : MaybeServiceInfo)
+    (captions : List ℕ) where
   abbrev header : List ℕ
   header = headerBytes (packetLength time services (length captions)) rate (heldFlags time services) sequence
 
@@ -145,7 +167,8 @@ module _ (rate : Framerate) (sequence : ℕ) (time : MaybeTimeCode) (services : 
   front-length =
       simp (length-append, time-length time, services-length services) (omega arith)
 
-  pub packet-length : length (packetBytes rate sequence time services captions) ≡ packetLength time services (length captions)
+  pub packet-length : length (packetBytes rate sequence time services captions)
+      ≡ packetLength time services (length captions)
   unfolding packetBytes
   packet-length = simp (length-append, time-length time, services-length services) (omega arith)
 
@@ -160,16 +183,26 @@ module _ (rate : Framerate) (sequence : ℕ) (time : MaybeTimeCode) (services : 
   packet-put buffer b1 b2 b3 b4 b5 a3 a4 a5 room e1 e2 e3 e4 e5 =
       let long-times = time-length time in
       let f1 : b1 ≡ over 0 header buffer = e1 ∙ put-fits 0 header buffer room in
-      let f2 : b2 ≡ over 0 (header ++ times) buffer = e2 .1 ∙ ap (over 7 times) f1 ∙ behind header times buffer 7 (omega arith) in
+      let f2 : b2 ≡ over 0 (header ++ times) buffer =
+      e2 .1 ∙ ap (over 7 times) f1 ∙ behind header times buffer 7 (omega arith) in
       let f3 : b3 ≡ over 0 (header ++ times ++ captionsBytes captions) buffer =
-      e3 .1 ∙ ap (over a3 (captionsBytes captions)) f2 ∙ behind (header ++ times) (captionsBytes captions) buffer a3 (simp (length-append, long-times) (omega (arith, e2 .0))) in
+      e3 .1
+      ∙ ap (over a3 (captionsBytes captions)) f2
+      ∙ behind (header ++ times) (captionsBytes captions) buffer a3
+      (simp (length-append, long-times) (omega (arith, e2 .0))) in
       let f4 : b4 ≡ over 0 front buffer =
-      e4 .1 ∙ ap (over a4 section) f3 ∙ behind (header ++ times ++ captionsBytes captions) section buffer a4 (simp (length-append, long-times) (omega (arith, e2 .0, e3 .0))) in
+      e4 .1
+      ∙ ap (over a4 section) f3
+      ∙ behind (header ++ times ++ captionsBytes captions) section buffer a4
+      (simp (length-append, long-times) (omega (arith, e2 .0, e3 .0))) in
       let end : a5 ≡ length front = omega (arith, e2 .0, e3 .0, e4 .0, front-length) in
       let before : take a5 b4 ≡ front = ap₂ (λ (n : ℕ) (b : List ℕ). take n b) end f4 ∙ take-over front buffer in
       let tail : ℕ → List ℕ = λ (n : ℕ). n ∷ [] in
       e5
-      ∙ ap (λ (xs : List ℕ). over a5 (footerBytes sequence ++ tail (negative (total (xs ++ footerBytes sequence)))) b4) before
+      ∙ ap (λ (xs : List ℕ).
+      over a5 (footerBytes sequence ++ tail (negative (total (xs ++ footerBytes sequence)))) b4)
+      before
       ∙ ap (over a5 (footerBytes sequence ++ tail (negative (total (front ++ footerBytes sequence))))) f4
       ∙ behind front (footerBytes sequence ++ tail (negative (total (front ++ footerBytes sequence)))) buffer a5 end
-      ∙ ap (λ (xs : List ℕ). over 0 xs buffer) (sym (append-assoc front (footerBytes sequence) (tail (negative (total (front ++ footerBytes sequence))))))
+      ∙ ap (λ (xs : List ℕ). over 0 xs buffer)
+      (sym (append-assoc front (footerBytes sequence) (tail (negative (total (front ++ footerBytes sequence))))))

@@ -10,7 +10,18 @@ use borrow.Author.Tests.{eq-eqb, ne-eqb, le-leb, lt-leb, leb-true, leb-false, eq
 use lib.Dec.{eqb, leb}
 use Rattle.basis.proofs.Bools.{and-left, and-right}
 use Rattle.values.proofs.Rates.{no-row}
-use Rattle.basis.proofs.Verdicts.{and-first, and-second, andThen, done-clear, done-value, kept-first, kept-rest, refused-shows, refused-stays, verdict-append}
+use Rattle.basis.proofs.Verdicts.{
+  and-first,
+  and-second,
+  andThen,
+  done-clear,
+  done-value,
+  kept-first,
+  kept-rest,
+  refused-shows,
+  refused-stays,
+  verdict-append,
+}
 use Rattle.basis.specs.Answer.{UnknownFramerate, WrongCaptionRun, done, refused}
 use Rattle.basis.specs.Check.{Check, Verdict, answer, check, clear, sizeWhen, verdict, when}
 use Rattle.values.specs.Rate.{fromId, known, noRate}
@@ -19,7 +30,15 @@ use Rattle.service_list.proofs.SectionWrites.{value-length}
 use Rattle.service_list.specs.ServiceList.{byteLen, countCheck}
 use Rattle.service_list.specs.SectionWriting.{counted, entryWriteChecks, valueChecks}
 use Rattle.service_list.specs.Code.{valueAnswer}
-use Rattle.write_checks.specs.Checks.{fullTriplets, packetWriteChecks, packetLength, servicesWriteChecks, servicesLength, timeCodeWriteChecks, timeCodeLength}
+use Rattle.write_checks.specs.Checks.{
+  fullTriplets,
+  packetWriteChecks,
+  packetLength,
+  servicesWriteChecks,
+  servicesLength,
+  timeCodeWriteChecks,
+  timeCodeLength,
+}
 use Rattle.write_checks.specs.Code.{packetWriteTested, servicesWriteTested, timeCodeWriteTested, withLength, withoutLength}
 use Rattle.write_checks.specs.declared.checks.WriteTested.{WriteTested}
 use Rattle.service_list.specs.declared.list.MaybeServiceInfo.{MaybeServiceInfo}
@@ -56,11 +75,13 @@ module _ (time : MaybeTimeCode) where
   no-time a = not-held (time .present) (timeWriteChecks (time .«time_code»)) 5 a
 
   module _ (held : time .present ≡ true) where
-    pub bad-time : eqb (timeWritten (time .«time_code») .answer .number) 0 ≡ false → withoutLength (timeWritten (time .«time_code») .answer) ≡ timeCodeWriteTested time
+    pub bad-time : eqb (timeWritten (time .«time_code») .answer .number) 0 ≡ false
+        → withoutLength (timeWritten (time .«time_code») .answer) ≡ timeCodeWriteTested time
     unfolding timeWritten timeCodeWriteTested
     bad-time h = held-refused (time .present) (timeWriteChecks (time .«time_code»)) 5 held h
 
-    pub good-time : eqb (timeWritten (time .«time_code») .answer .number) 0 ≡ true → measured (timeWritten (time .«time_code») .answer) 5 ≡ timeCodeWriteTested time
+    pub good-time : eqb (timeWritten (time .«time_code») .answer .number) 0 ≡ true
+        → measured (timeWritten (time .«time_code») .answer) 5 ≡ timeCodeWriteTested time
     unfolding timeWritten timeCodeWriteTested
     good-time h = held-done (time .present) (timeWriteChecks (time .«time_code»)) 5 held h
 
@@ -77,15 +98,19 @@ module _ (services : MaybeServiceInfo) where
     unfolding valueAnswer servicesWriteTested
     bad-list h = held-refused (services .present) (valueChecks list) (sectionLength (list .count)) held h
 
-    pub good-list : eqb (valueAnswer list .number) 0 ≡ true → measured (valueAnswer list) (byteLen list .first) ≡ servicesWriteTested services
+    pub good-list : eqb (valueAnswer list .number) 0 ≡ true
+        → measured (valueAnswer list) (byteLen list .first) ≡ servicesWriteTested services
     unfolding valueAnswer servicesWriteTested
     good-list h =
         ap (λ (a : Answer). measured (valueAnswer list) (a .first)) (value-length list h)
         ∙ held-done (services .present) (valueChecks list) (sectionLength (list .count)) held h
 
 -- a held list that can be written counts up to 15, so that its section has 107 bytes at most
-services-most : (present : Bool) (l : ServiceInfo) → verdict (when present (valueChecks l)) ≡ clear → sizeWhen present (sectionLength (l .count)) ≤ 107
-services-most true l h = let few : l .count ≤ 15 = leb-true _ _ (kept-first (countCheck l) (entryWriteChecks (counted l)) h) in omega arith
+services-most : (present : Bool) (l : ServiceInfo) → verdict (when present (valueChecks l)) ≡ clear
+    → sizeWhen present (sectionLength (l .count)) ≤ 107
+services-most true l h =
+    let few : l .count ≤ 15 = leb-true _ _ (kept-first (countCheck l) (entryWriteChecks (counted l)) h) in
+    omega arith
 services-most false l h = omega arith
 
 time-most : (present : Bool) → sizeWhen present 5 ≤ 5
@@ -105,25 +130,32 @@ pub record Sizes (t s : WriteTested) (time : MaybeTimeCode) (services : MaybeSer
   pub time-few : timeCodeLength time ≤ 5
   pub services-few : servicesLength services ≤ 107
 
-pub sizes : (t s : WriteTested) (time : MaybeTimeCode) (services : MaybeServiceInfo) → t ≡ timeCodeWriteTested time → s ≡ servicesWriteTested services
+pub sizes : (t s : WriteTested) (time : MaybeTimeCode) (services : MaybeServiceInfo) → t ≡ timeCodeWriteTested time
+    → s ≡ servicesWriteTested services
     → eqb (t .answer .number) 0 ≡ true → eqb (s .answer .number) 0 ≡ true → Sizes t s time services
 unfolding timeCodeWriteTested servicesWriteTested
 sizes t s time services te se timed served =
     record {
-      time-is = ap (λ (a : WriteTested). a .length) te ∙ done-value (verdict (timeCodeWriteChecks time)) 0 (timeCodeLength time) 0 (rw te at timed);
-      services-is = ap (λ (a : WriteTested). a .length) se ∙ done-value (verdict (servicesWriteChecks services)) 0 (servicesLength services) 0 (rw se at served);
+      time-is =
+          ap (λ (a : WriteTested). a .length) te
+          ∙ done-value (verdict (timeCodeWriteChecks time)) 0 (timeCodeLength time) 0 (rw te at timed);
+      services-is =
+          ap (λ (a : WriteTested). a .length) se
+          ∙ done-value (verdict (servicesWriteChecks services)) 0 (servicesLength services) 0 (rw se at served);
       time-few = time-code-most time;
       services-few = services-held-most services (done-clear (verdict (servicesWriteChecks services)) 0 (rw se at served));
     }
 
 above-eight : (id : ℕ) → 8 < id → noRate ≡ fromId id
 above-eight id h =
-    no-row id (λ e. omega arith) (λ e. omega arith) (λ e. omega arith) (λ e. omega arith) (λ e. omega arith) (λ e. omega arith) (λ e. omega arith) (λ e. omega arith)
+    no-row id (λ e. omega arith) (λ e. omega arith) (λ e. omega arith) (λ e. omega arith) (λ e. omega arith)
+    (λ e. omega arith) (λ e. omega arith) (λ e. omega arith)
 
 -- an id that names a rate is 8 at most
 named-id : (id : ℕ) (small : Bool) → leb id 8 ≡ small → fromId id .present ≡ true → id ≤ 8
 named-id id true e h = leb-true _ _ e
-named-id id false e h = absurd (false≢true (ap (λ (r : MaybeFramerate). r .present) (above-eight id (leb-false _ _ e)) ∙ h))
+named-id id false e h =
+    absurd (false≢true (ap (λ (r : MaybeFramerate). r .present) (above-eight id (leb-false _ _ e)) ∙ h))
 
 pub known-id : (rate : Framerate) → known rate ≡ true → rate .id ≤ 8
 known-id rate h = named-id (rate .id) (leb (rate .id) 8) refl (and-left _ _ h)
@@ -148,29 +180,39 @@ module _ (rate : Framerate) (time : MaybeTimeCode) (services : MaybeServiceInfo)
         behind = andThen (verdict (timeCodeWriteChecks time)) (verdict (servicesWriteChecks services))
 
         as-parts : verdict (packetWriteChecks rate time services run) ≡ behind
-        as-parts = simp (rated, le-leb _ _ short, eq-eqb _ _ whole) (verdict-append (timeCodeWriteChecks time) (servicesWriteChecks services))
+        as-parts =
+            simp (rated, le-leb _ _ short, eq-eqb _ _ whole)
+            (verdict-append (timeCodeWriteChecks time) (servicesWriteChecks services))
 
-        pub time-refused : eqb (timeCodeWriteTested time .answer .number) 0 ≡ false → withoutLength (timeCodeWriteTested time .answer) ≡ packetWriteTested rate time services run
+        pub time-refused : eqb (timeCodeWriteTested time .answer .number) 0 ≡ false
+            → withoutLength (timeCodeWriteTested time .answer) ≡ packetWriteTested rate time services run
         unfolding packetWriteTested timeCodeWriteTested
         time-refused h =
             let v : Verdict = verdict (timeCodeWriteChecks time) in
             refused-shows measured v 0 0 (packetLength time services run) 0 h
-            ∙ ap (λ (u : Verdict). withLength u (packetLength time services run)) (sym (as-parts ∙ refused-stays v _ _ h))
+            ∙ ap (λ (u : Verdict). withLength u (packetLength time services run))
+            (sym (as-parts ∙ refused-stays v _ _ h))
 
         module _ (timed : eqb (timeCodeWriteTested time .answer .number) 0 ≡ true) where
           behind-time : verdict (packetWriteChecks rate time services run) ≡ verdict (servicesWriteChecks services)
           unfolding timeCodeWriteTested
-          behind-time = as-parts ∙ ap (λ (v : Verdict). andThen v (verdict (servicesWriteChecks services))) (done-clear (verdict (timeCodeWriteChecks time)) 0 timed)
+          behind-time =
+              as-parts
+              ∙ ap (λ (v : Verdict). andThen v (verdict (servicesWriteChecks services)))
+              (done-clear (verdict (timeCodeWriteChecks time)) 0 timed)
 
-          pub services-refused : eqb (servicesWriteTested services .answer .number) 0 ≡ false → withoutLength (servicesWriteTested services .answer) ≡ packetWriteTested rate time services run
+          pub services-refused : eqb (servicesWriteTested services .answer .number) 0 ≡ false
+              → withoutLength (servicesWriteTested services .answer) ≡ packetWriteTested rate time services run
           unfolding packetWriteTested servicesWriteTested
           services-refused h =
               refused-shows measured (verdict (servicesWriteChecks services)) 0 0 (packetLength time services run) 0 h
               ∙ ap (λ (u : Verdict). withLength u (packetLength time services run)) (sym behind-time)
 
-          pub all-right : eqb (servicesWriteTested services .answer .number) 0 ≡ true → measured (done 0) (packetLength time services run) ≡ packetWriteTested rate time services run
+          pub all-right : eqb (servicesWriteTested services .answer .number) 0 ≡ true
+              → measured (done 0) (packetLength time services run) ≡ packetWriteTested rate time services run
           unfolding packetWriteTested servicesWriteTested
-          all-right h = ap (λ (u : Verdict). withLength u (packetLength time services run)) (sym (behind-time ∙ done-clear _ _ h))
+          all-right h =
+              ap (λ (u : Verdict). withLength u (packetLength time services run)) (sym (behind-time ∙ done-clear _ _ h))
 
 -- where a packet's test gives an answer 0, its verdict is clear, and the packet's length stands beside it
 module _ (rate : Framerate) (time : MaybeTimeCode) (services : MaybeServiceInfo) (run : ℕ) (t : WriteTested) where
@@ -190,11 +232,13 @@ pub record Accepted (rate : Framerate) (time : MaybeTimeCode) (services : MaybeS
   pub timed : verdict (timeCodeWriteChecks time) ≡ clear
   pub served : verdict (servicesWriteChecks services) ≡ clear
 
-pub accepted : (rate : Framerate) (time : MaybeTimeCode) (services : MaybeServiceInfo) (run : ℕ) → verdict (packetWriteChecks rate time services run) ≡ clear → Accepted rate time services run
+pub accepted : (rate : Framerate) (time : MaybeTimeCode) (services : MaybeServiceInfo) (run : ℕ)
+    → verdict (packetWriteChecks rate time services run) ≡ clear → Accepted rate time services run
 accepted rate time services run h =
     let parts : List Check = timeCodeWriteChecks time ++ servicesWriteChecks services in
     let triplets : Check = check (fullTriplets run) WrongCaptionRun in
-    let later : verdict (triplets ∷ parts) ≡ clear = kept-rest (check (known rate) UnknownFramerate) (triplets ∷ parts) h in
+    let later : verdict (triplets ∷ parts) ≡ clear =
+    kept-rest (check (known rate) UnknownFramerate) (triplets ∷ parts) h in
     let full : fullTriplets run ≡ true = kept-first triplets parts later in
     let both : andThen (verdict (timeCodeWriteChecks time)) (verdict (servicesWriteChecks services)) ≡ clear =
     sym (verdict-append (timeCodeWriteChecks time) (servicesWriteChecks services)) ∙ kept-rest triplets parts later in
@@ -207,7 +251,8 @@ accepted rate time services run h =
     }
 
 -- The longest packet that is written has 218 bytes.
-pub length-most : (rate : Framerate) (time : MaybeTimeCode) (services : MaybeServiceInfo) (run : ℕ) → verdict (packetWriteChecks rate time services run) ≡ clear → packetLength time services run ≤ 218
+pub length-most : (rate : Framerate) (time : MaybeTimeCode) (services : MaybeServiceInfo) (run : ℕ)
+    → verdict (packetWriteChecks rate time services run) ≡ clear → packetLength time services run ≤ 218
 length-most rate time services run h =
     let a : Accepted rate time services run = accepted rate time services run h in
     omega (arith, a .short, time-code-most time, services-held-most services (a .served))

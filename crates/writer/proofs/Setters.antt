@@ -37,7 +37,8 @@ module _ (w : CDPWriter) (services : MaybeServiceInfo) where
   unfolding countAnswer setServiceInfo
   not-set h = refused-shows set (verdict (setChecks services)) 0 0 (holding w services) w h
 
-  pub is-set : eqb (countAnswer services .number) 0 ≡ true → set (countAnswer services) (holding w services) ≡ setServiceInfo w services
+  pub is-set : eqb (countAnswer services .number) 0 ≡ true
+      → set (countAnswer services) (holding w services) ≡ setServiceInfo w services
   unfolding countAnswer setServiceInfo
   is-set h =
       ap (λ (x : CDPWriter). set (answer (verdict (setChecks services)) 0) x)

@@ -34,7 +34,11 @@ loop-less : tie.Need-loop-less Inv-loop μ-loop
 loop-less c = search needs
 
 loop-again : tie.Need-loop-again Inv-loop μ-loop
-loop-again c = (omega arith, simp length-set (omega arith), rw (c .before .before .loop .inv .2) (copied-one _ _ _ _ (omega arith) (omega arith)))
+loop-again c = (
+  omega arith,
+  simp length-set (omega arith),
+  rw (c .before .before .loop .inv .2) (copied-one _ _ _ _ (omega arith) (omega arith)),
+)
 
 same-length : tie.Need-same-length Inv-loop μ-loop
 same-length c = search needs

@@ -18,7 +18,8 @@ returns : tie.Need-returns
 returns c =
     let s = c .before .before in
     rw (c .answered .ensures, c .before .room-from .ensures)
-    (⊎-elim (λ w. short-refused _ _ _ (omega arith)) (λ w. short-refused _ _ _ (omega (arith, ltb-true))) (s .if1 .came))
+    (⊎-elim (λ w. short-refused _ _ _ (omega arith)) (λ w. short-refused _ _ _ (omega (arith, ltb-true)))
+    (s .if1 .came))
 
 copy-requires : tie.Need-copy-requires
 copy-requires c κs = omega (arith, ltb-false)
@@ -30,7 +31,8 @@ same-length : tie.Need-same-length
 same-length c = search needs
 
 returns-2 : tie.Need-returns-2
-returns-2 c = rw (c .done .ensures, c .before .before .before .copy .ensures) (fits-clear _ _ _ (omega (arith, ltb-false)))
+returns-2 c =
+    rw (c .done .ensures, c .before .before .before .copy .ensures) (fits-clear _ _ _ (omega (arith, ltb-false)))
 
 pub put-spec : {M : Type 1} → statement M
 put-spec =

@@ -7,11 +7,13 @@ use Rattle.bench.proofs.reading.turns.Statement.{statement}
 use Rattle.bench.proofs.reading.turns.Tie as tie
 
 abbrev Inv-loop : tie.InvT-loop
-Inv-loop packet₀ turns captions₀ parser₀ answers₀ last₀ left₀ t9 t10 t11 t12 t13 packet captions parser answers last left =
+Inv-loop packet₀ turns captions₀ parser₀ answers₀ last₀ left₀ t9 t10 t11 t12 t13
+    packet captions parser answers last left =
     (length packet ≡ length packet₀) × (length captions ≡ length captions₀)
 
 abbrev μ-loop : tie.MeasureT-loop
-μ-loop packet₀ turns captions₀ parser₀ answers₀ last₀ left₀ t9 t10 t11 t12 t13 packet captions parser answers last left =
+μ-loop packet₀ turns captions₀ parser₀ answers₀ last₀ left₀ t9 t10 t11 t12 t13
+    packet captions parser answers last left =
     left
 
 new-requires : tie.Need-new-requires Inv-loop μ-loop

@@ -11,7 +11,8 @@ use Rattle.report.proofs.digest.entries_fed.Statement.{statement}
 use Rattle.report.proofs.digest.entries_fed.Tie as tie
 
 abbrev Inv-loop : tie.InvT-loop
-Inv-loop first count services digest₀ k₀ digest k = (k ≤ 15) × (entriesFed first (take count services) ≡ entriesLeft digest k count services)
+Inv-loop first count services digest₀ k₀ digest k =
+    (k ≤ 15) × (entriesFed first (take count services) ≡ entriesLeft digest k count services)
 
 abbrev μ-loop : tie.MeasureT-loop
 μ-loop first count services digest₀ k₀ digest k = 15 - k
@@ -39,8 +40,9 @@ loop-less c = search needs
 
 loop-again : tie.Need-loop-again Inv-loop μ-loop
 loop-again c =
-    let s = c .before .before .before .before in
-    (omega arith, rw (c .entry-fed .ensures) (s .loop .inv .1 ∙ entries-more _ _ _ _ _ (omega arith) (omega arith)))
+    let entry = c .before in
+    let turn = entry .before .before .before in
+    (omega arith, rw (c .entry-fed .ensures) (turn .loop .inv .1 ∙ entries-more _ _ _ _ _ (omega arith) (omega arith)))
 
 returns-2 : tie.Need-returns-2 Inv-loop μ-loop
 returns-2 c = sym (c .before .loop .inv .1 ∙ entries-end _ _ _ _ (omega arith))

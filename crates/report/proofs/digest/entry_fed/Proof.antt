@@ -28,7 +28,13 @@ service-fed-requires c κs = search needs
 
 returns : tie.Need-returns
 unfolding entryFed
-returns c = rw (← c .before .before .before .feed .ensures, ← c .before .before .feed2 .ensures, ← c .before .feed3 .ensures) (c .service-fed .ensures)
+returns c =
+    rw (
+      ← c .before .before .before .feed .ensures,
+      ← c .before .before .feed2 .ensures,
+      ← c .before .feed3 .ensures,
+    )
+    (c .service-fed .ensures)
 
 pub entry-fed-spec : {M : Type 1} → statement M
 entry-fed-spec =

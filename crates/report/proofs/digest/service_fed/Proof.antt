@@ -32,13 +32,24 @@ flag-fed-requires-2 : tie.Need-flag-fed-requires-2
 flag-fed-requires-2 c κs = search needs
 
 returns : tie.Need-returns
-returns c = rw (c .before .before .before .before .service .given .1, c .before .if1 .taken, ← c .before .before .feed .ensures) (c .feed2 .ensures)
+returns c =
+    let fed = c .before .before in
+    rw (fed .before .before .service .given .1, c .before .if1 .taken, ← fed .feed .ensures) (c .feed2 .ensures)
 
 returns-2 : tie.Need-returns-2
-returns-2 c = rw (c .before .before .before .before .service .given .1, c .before .if1 .left, ← c .before .before .feed .ensures) (c .feed3 .ensures)
+returns-2 c =
+    let fed = c .before .before in
+    rw (fed .before .before .service .given .1, c .before .if1 .left, ← fed .feed .ensures) (c .feed3 .ensures)
 
 returns-3 : tie.Need-returns-3
-returns-3 c = rw (c .before .before .before .before .before .service2 .given .1, ← c .before .before .before .feed4 .ensures, ← c .before .before .feed5 .ensures, ← c .before .flag-fed .ensures) (c .flag-fed2 .ensures)
+returns-3 c =
+    let fed = c .before .before .before in
+    rw (
+      fed .before .before .service2 .given .1,
+      ← fed .feed4 .ensures,
+      ← c .before .before .feed5 .ensures,
+      ← c .before .flag-fed .ensures,
+    ) (c .flag-fed2 .ensures)
 
 pub service-fed-spec : {M : Type 1} → statement M
 service-fed-spec =

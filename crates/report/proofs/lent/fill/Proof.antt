@@ -24,17 +24,21 @@ all : (lent : List ℕ) → over 0 (full lent) lent ≡ full lent
 unfolding over
 all lent = rw (drop-of-length-le lent {i = 0 + length (full lent)} (omega (arith, long lent)), append-nil (full lent))
 
-finished : (k : ℕ) (lent out : List ℕ) → out ≡ copied k 0 (full lent) lent → k ≡ length lent → out ≡ replicate (length lent) 0xA5
+finished : (k : ℕ) (lent out : List ℕ) → out ≡ copied k 0 (full lent) lent → k ≡ length lent
+    → out ≡ replicate (length lent) 0xA5
 unfolding full
 finished k lent out h e = h ∙ copied-all 0 (full lent) lent k (e ∙ long lent) ∙ all lent
 
-turn : (k : ℕ) (lent : List ℕ) → k < length lent → set (copied k 0 (full lent) lent) k 0xA5 ≡ copied (k + 1) 0 (full lent) lent
+turn : (k : ℕ) (lent : List ℕ) → k < length lent
+    → set (copied k 0 (full lent) lent) k 0xA5 ≡ copied (k + 1) 0 (full lent) lent
 unfolding full
 turn k lent h =
-    rw (zero-add k, getD-replicate {A = ℕ} (length lent) k 0xA5 0 h) at (copied-one 0 (full lent) lent k (omega (arith, h, long lent)) (omega (arith, h)))
+    let one = copied-one 0 (full lent) lent k (omega (arith, h, long lent)) (omega (arith, h)) in
+    rw (zero-add k, getD-replicate {A = ℕ} (length lent) k 0xA5 0 h) at one
 
 abbrev Inv-loop : tie.InvT-loop
-Inv-loop lent₀ k₀ k-end lent k = (k ≤ length lent₀) × (length lent ≡ length lent₀) × (lent ≡ copied k 0 (full lent₀) lent₀)
+Inv-loop lent₀ k₀ k-end lent k =
+    (k ≤ length lent₀) × (length lent ≡ length lent₀) × (lent ≡ copied k 0 (full lent₀) lent₀)
 
 abbrev μ-loop : tie.MeasureT-loop
 μ-loop lent₀ k₀ k-end lent k = length lent₀ - k

@@ -6,7 +6,15 @@ use denote.Ref.{now}
 use lib.ListN.{length, length-set}
 use native.Mathlib.Omega.{arith}
 use borrow.Author.Needs.{needs}
-use Rattle.service_entries.proofs.SectionEntries.{entries-right, entry-held, first-all, first-more, first-none, firstRead, section-long}
+use Rattle.service_entries.proofs.SectionEntries.{
+  entries-right,
+  entry-held,
+  first-all,
+  first-more,
+  first-none,
+  firstRead,
+  section-long,
+}
 use Rattle.service_entries.specs.Entries.{countOf}
 use Rattle.service_entry.specs.declared.entry.ServiceEntryRead.{ServiceEntryRead}
 use Rattle.service_entries.proofs.entries.places.Statement.{statement}
@@ -17,6 +25,10 @@ Inv-loop «data» count services₀ k₀ services k = (k ≤ count) × (length s
 
 abbrev μ-loop : tie.MeasureT-loop
 μ-loop «data» count services₀ k₀ services k = count - k
+
+-- the station: from where the places are filled up, back to the arguments
+abbrev entered : tie.After-fillers Inv-loop μ-loop → tie.Start Inv-loop μ-loop
+entered c = c .before .before .before
 
 shared-slice-read-count : tie.Need-shared-slice-read-count Inv-loop μ-loop
 shared-slice-read-count c = omega (arith, section-long _ (c .before .before .pre))
@@ -37,7 +49,7 @@ add-six-behind : tie.Need-add-six-behind Inv-loop μ-loop
 add-six-behind c = search needs
 
 six-behind-requires : tie.Need-six-behind-requires Inv-loop μ-loop
-six-behind-requires c κs = omega (arith, section-long _ (c .before .before .before .before .before .pre))
+six-behind-requires c κs = omega (arith, section-long _ (entered (c .before .before) .pre))
 
 parse-requires : tie.Need-parse-requires Inv-loop μ-loop
 parse-requires c κs = search needs
@@ -56,15 +68,21 @@ loop-less c = search needs
 
 loop-again : tie.Need-loop-again Inv-loop μ-loop
 loop-again c =
-    let inv = c .before .before .before .before .loop .inv in
-    let start = c .before .before .before .before .before .before .before .before in
+    let six = c .before .before in
+    let turn = six .before .before in
+    let inv = turn .loop .inv in
+    let start = entered (turn .before) in
     let d = now (start .args .«data») in
-    let read = rw (c .before .before .six-behind .ensures) at (c .before .parse .ensures) in
-    let held = ap (λ (r : ServiceEntryRead). r .entry) read ∙ entry-held d 2 (countOf d) (c .before .before .before .before .loop .k) (entries-right d (start .pre)) (omega arith) in
+    let read = rw (six .six-behind .ensures) at (c .before .parse .ensures) in
+    let held =
+    ap (λ (r : ServiceEntryRead). r .entry) read
+    ∙ entry-held d 2 (countOf d) (turn .loop .k) (entries-right d (start .pre)) (omega arith) in
     (omega arith, simp length-set (inv .1), rw (inv .2, held) (first-more _ _ _ (omega arith)))
 
 returns : tie.Need-returns Inv-loop μ-loop
-returns c = c .before .loop .inv .2 ∙ first-all _ _ _ (countOf (now (c .before .before .before .before .before .args .«data»))) (omega arith)
+returns c =
+    let start = entered (c .before .before) in
+    c .before .loop .inv .2 ∙ first-all _ _ _ (countOf (now (start .args .«data»))) (omega arith)
 
 pub places-spec : {M : Type 1} → statement M
 places-spec =

@@ -20,7 +20,9 @@ refused-requires c κs = search needs
 returns : tie.Need-returns
 returns c =
     let e = c .before .before .before .test-section .ensures in
-    c .refused .ensures ∙ ap refusedEntries e ∙ entries-refused _ (rw e at (sym (c .before .before .is-done .ensures) ∙ not-true _ (c .before .if1 .taken)))
+    c .refused .ensures
+    ∙ ap refusedEntries e
+    ∙ entries-refused _ (rw e at (sym (c .before .before .is-done .ensures) ∙ not-true _ (c .before .if1 .taken)))
 
 places-requires : tie.Need-places-requires
 places-requires c κs =
@@ -30,7 +32,8 @@ places-requires c κs =
 returns-2 : tie.Need-returns-2
 returns-2 c =
     let e = c .before .before .before .test-section .ensures in
-    rw (c .places .ensures, e) (entries-read _ (rw e at (sym (c .before .before .is-done .ensures) ∙ not-false _ (c .before .if1 .left))))
+    rw (c .places .ensures, e)
+    (entries-read _ (rw e at (sym (c .before .before .is-done .ensures) ∙ not-false _ (c .before .if1 .left))))
 
 pub read-entries-spec : {M : Type 1} → statement M
 read-entries-spec =

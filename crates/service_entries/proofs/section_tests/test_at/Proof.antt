@@ -1,13 +1,46 @@
 -- `service_entries::section_tests::test_at` is rules S5 to S8: each return is where a test is the first that fails, or where none does.
 -- Assumes nothing.
-use mathlib.Core.Path.{_∙_, ap, sym}
+use mathlib.Core.Path.{_≡_, _∙_, ap, sym}
+use mathlib.Core.Bool.{true}
+use denote.Ref.{now}
+use lib.Dec.{eqb}
 use native.Mathlib.Omega.{arith}
 use borrow.Author.Tests.{not-true, not-false}
 use Rattle.service_entries.proofs.SectionEntries.{entry-refused, header-no-20, header-no-80, other-number, same-number}
+use Rattle.service_entries.specs.Entries.{sixBehind}
+use Rattle.service_entry.specs.Entry.{entryRead}
 use Rattle.service_entry.specs.declared.entry.ServiceEntryRead.{ServiceEntryRead}
 use borrow.Author.Needs.{needs}
 use Rattle.service_entries.proofs.section_tests.test_at.Statement.{statement}
 use Rattle.service_entries.proofs.section_tests.test_at.Tie as tie
+
+-- the stations: where the header is accepted, the entry read and accepted
+abbrev entered : tie.Else1 → tie.Start
+entered c = c .before .before .before
+
+abbrev header-accepted : tie.After-parse → tie.Else2
+header-accepted c = c .before .before
+
+abbrev entry-read : tie.After-is-done → tie.After-parse
+entry-read c = c .before .before
+
+abbrev entry-accepted : tie.After-named-by → tie.Else3
+entry-accepted c = c .before .before
+
+-- the arguments, from where the entry is read on
+abbrev start : tie.After-parse → tie.Start
+start c = entered (header-accepted c .before)
+
+-- what is read, and that it is right where it is accepted
+read : (c : tie.After-parse)
+    → c .parse .result ≡ entryRead (sixBehind (now (start c .args .«data»)) (start c .args .at))
+read c = rw (c .before .six-behind .ensures) at (c .parse .ensures)
+
+right : (c : tie.Else3)
+    → eqb (entryRead (sixBehind (now (start (entry-read (c .before)) .args .«data»))
+    (start (entry-read (c .before)) .args .at)) .answer .number) 0 ≡ true
+right c =
+    rw (read (entry-read (c .before))) at (sym (c .before .is-done .ensures) ∙ not-false _ (c .if3 .left))
 
 shared-slice-read-header : tie.Need-shared-slice-read-header
 shared-slice-read-header c = search needs
@@ -29,11 +62,11 @@ is-done-requires c κs = search needs
 
 returns-3 : tie.Need-returns-3
 returns-3 c =
-    let read = c .before .before .before in
-    let parsed = rw (read .before .six-behind .ensures) at (read .parse .ensures) in
-    let tests = read .before .before in
+    let parsed = read (entry-read (c .before)) in
+    let tests = header-accepted (entry-read (c .before)) in
     ap (λ (r : ServiceEntryRead). r .answer) parsed
-    ∙ entry-refused _ _ (tests .before .if1 .left) (tests .if2 .left) (rw parsed at (sym (c .before .is-done .ensures) ∙ not-true _ (c .if3 .taken)))
+    ∙ entry-refused _ _ (tests .before .if1 .left) (tests .if2 .left)
+    (rw parsed at (sym (c .before .is-done .ensures) ∙ not-true _ (c .if3 .taken)))
 
 named-by-requires : tie.Need-named-by-requires
 named-by-requires c κs = search needs
@@ -43,26 +76,26 @@ number-of-requires c κs = search needs
 
 returns-4 : tie.Need-returns-4
 returns-4 c =
-    let done = c .before .before .before .before in
-    let read = done .before .before .before in
-    let parsed = rw (read .before .six-behind .ensures) at (read .parse .ensures) in
-    let tests = read .before .before in
-    other-number _ _ (tests .before .if1 .left) (tests .if2 .left) (rw parsed at (sym (done .before .is-done .ensures) ∙ not-false _ (done .if3 .left)))
-    (rw (c .before .before .named-by .ensures, c .before .number-of .ensures, parsed) at (c .if4 .taken))
+    let named = c .before .before in
+    let done = entry-accepted named in
+    let parsed = entry-read (done .before) in
+    let tests = header-accepted parsed in
+    other-number _ _ (tests .before .if1 .left) (tests .if2 .left) (right done)
+    (rw (named .named-by .ensures, c .before .number-of .ensures, read parsed) at (c .if4 .taken))
 
 done-requires : tie.Need-done-requires
 done-requires c κs = search needs
 
 returns-5 : tie.Need-returns-5
 returns-5 c =
-    let s = c .before in
-    let done = s .before .before .before .before in
-    let read = done .before .before .before in
-    let parsed = rw (read .before .six-behind .ensures) at (read .parse .ensures) in
-    let tests = read .before .before in
+    let same = c .before in
+    let named = same .before .before in
+    let done = entry-accepted named in
+    let parsed = entry-read (done .before) in
+    let tests = header-accepted parsed in
     c .done .ensures
-    ∙ same-number _ _ (tests .before .if1 .left) (tests .if2 .left) (rw parsed at (sym (done .before .is-done .ensures) ∙ not-false _ (done .if3 .left)))
-    (rw (s .before .before .named-by .ensures, s .before .number-of .ensures, parsed) at (s .if4 .left))
+    ∙ same-number _ _ (tests .before .if1 .left) (tests .if2 .left) (right done)
+    (rw (named .named-by .ensures, same .before .number-of .ensures, read parsed) at (same .if4 .left))
 
 pub test-at-spec : {M : Type 1} → statement M
 test-at-spec =

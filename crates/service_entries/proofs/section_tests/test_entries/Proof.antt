@@ -35,9 +35,11 @@ is-done-requires c κs = search needs
 
 returns : tie.Need-returns Inv-loop μ-loop
 returns c =
-    let e = c .before .before .test-at .ensures in
+    let tested = c .before .before in
+    let turn = tested .before .before in
+    let e = tested .test-at .ensures in
     e
-    ∙ section-refused _ _ (c .before .before .before .before .before .before .pre) _ (omega arith) (c .before .before .before .before .loop .inv .1)
+    ∙ section-refused _ _ (turn .before .before .pre) _ (omega arith) (turn .loop .inv .1)
     (rw e at (sym (c .before .is-done .ensures) ∙ not-true _ (c .if1 .taken)))
 
 add-k : tie.Need-add-k Inv-loop μ-loop
@@ -48,14 +50,19 @@ loop-less c = search needs
 
 loop-again : tie.Need-loop-again Inv-loop μ-loop
 loop-again c =
-    let r = rw (c .before .before .test-at .ensures) at (sym (c .before .is-done .ensures) ∙ not-false _ (c .if1 .left)) in
-    (omega arith, c .before .before .before .before .loop .inv .1 ∙ left-goes-on _ _ _ (omega arith) r)
+    let tested = c .before .before in
+    let turn = tested .before .before in
+    let r =
+    rw (tested .test-at .ensures) at (sym (c .before .is-done .ensures) ∙ not-false _ (c .if1 .left)) in
+    (omega arith, turn .loop .inv .1 ∙ left-goes-on _ _ _ (omega arith) r)
 
 done-requires : tie.Need-done-requires Inv-loop μ-loop
 done-requires c κs = search needs
 
 returns-2 : tie.Need-returns-2 Inv-loop μ-loop
-returns-2 c = c .done .ensures ∙ section-whole _ _ (c .before .before .before .before .pre) _ (omega arith) (c .before .before .loop .inv .1)
+returns-2 c =
+    let turn = c .before .before in
+    c .done .ensures ∙ section-whole _ _ (turn .before .before .pre) _ (omega arith) (turn .loop .inv .1)
 
 pub test-entries-spec : {M : Type 1} → statement M
 test-entries-spec =

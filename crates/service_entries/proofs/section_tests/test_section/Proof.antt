@@ -40,7 +40,8 @@ length-mismatch-requires-2 c κs = search needs
 returns-4 : tie.Need-returns-4
 returns-4 c =
     let s = c .before .before in
-    c .length-mismatch2 .ensures ∙ other-size _ (omega arith) (s .before .before .if2 .left) (s .if3 .left) (λ h. omega arith)
+    c .length-mismatch2 .ensures
+    ∙ other-size _ (omega arith) (s .before .before .if2 .left) (s .if3 .left) (λ h. omega arith)
 
 test-entries-requires : tie.Need-test-entries-requires
 test-entries-requires c κs = search needs

@@ -31,8 +31,11 @@ is-writable-requires c κs = search needs
 
 returns : tie.Need-returns Inv-loop μ-loop
 returns c =
-    let s = c .before .before .before .before in
-    sym (s .loop .inv .1 ∙ ahead-stops _ _ _ _ (omega arith) (omega arith) (sym (c .before .is-writable .ensures) ∙ not-true _ (c .if1 .taken)))
+    let tested = c .before in
+    let turn = tested .before .before .before in
+    sym (turn .loop .inv .1
+    ∙ ahead-stops _ _ _ _ (omega arith) (omega arith)
+    (sym (tested .is-writable .ensures) ∙ not-true _ (c .if1 .taken)))
 
 add-k : tie.Need-add-k Inv-loop μ-loop
 add-k c = search needs
@@ -42,8 +45,13 @@ loop-less c = search needs
 
 loop-again : tie.Need-loop-again Inv-loop μ-loop
 loop-again c =
-    let s = c .before .before .before .before in
-    (omega arith, s .loop .inv .1 ∙ ahead-goes-on _ _ _ _ (omega arith) (omega arith) (sym (c .before .is-writable .ensures) ∙ not-false _ (c .if1 .left)))
+    let tested = c .before in
+    let turn = tested .before .before .before in (
+      omega arith,
+      turn .loop .inv .1
+          ∙ ahead-goes-on _ _ _ _ (omega arith) (omega arith)
+          (sym (tested .is-writable .ensures) ∙ not-false _ (c .if1 .left)),
+    )
 
 returns-2 : tie.Need-returns-2 Inv-loop μ-loop
 returns-2 c = sym (c .before .loop .inv .1 ∙ ahead-ends _ _ _ (omega arith))

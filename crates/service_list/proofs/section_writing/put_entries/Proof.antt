@@ -13,7 +13,8 @@ use Rattle.service_list.proofs.section_writing.put_entries.Statement.{s
 use Rattle.service_list.proofs.section_writing.put_entries.Tie as tie
 
 abbrev Inv-loop : tie.InvT-loop
-Inv-loop count out₀ services k₀ out k = (k ≤ count) × (length out ≡ length out₀) × (out ≡ entriesPut k services out₀) × (ahead k count services ≡ true)
+Inv-loop count out₀ services k₀ out k =
+    (k ≤ count) × (length out ≡ length out₀) × (out ≡ entriesPut k services out₀) × (ahead k count services ≡ true)
 
 abbrev μ-loop : tie.MeasureT-loop
 μ-loop count out₀ services k₀ out k = count - k
@@ -50,9 +51,16 @@ loop-less c = search needs
 
 loop-again : tie.Need-loop-again Inv-loop μ-loop
 loop-again c =
-    let s = c .before .before .before .before .before in
-    let inv = s .before .before .before .loop .inv in
-    (omega arith, omega arith, c .before .before .put .ensures .1 ∙ rw (s .section-bytes .ensures, inv .2) (put-more _ _ _ _ (omega arith) (omega arith) (ahead-here _ _ _ _ (omega arith) (omega arith) (inv .3))), ahead-next _ _ _ filler (omega arith) (omega arith) (inv .3))
+    let put = c .before .before in
+    let made = put .before .before .before in
+    let inv = made .before .before .before .loop .inv in
+    let here = ahead-here _ _ _ _ (omega arith) (omega arith) (inv .3) in (
+      omega arith,
+      omega arith,
+      put .put .ensures .1
+          ∙ rw (made .section-bytes .ensures, inv .2) (put-more _ _ _ _ (omega arith) (omega arith) here),
+      ahead-next _ _ _ filler (omega arith) (omega arith) (inv .3),
+    )
 
 same-length : tie.Need-same-length Inv-loop μ-loop
 same-length c = search needs

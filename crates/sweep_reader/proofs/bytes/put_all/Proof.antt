@@ -12,7 +12,8 @@ use Rattle.sweep_reader.proofs.bytes.put_all.Statement.{statement}
 use Rattle.sweep_reader.proofs.bytes.put_all.Tie as tie
 
 abbrev Inv-loop : tie.InvT-loop
-Inv-loop out₀ from bytes at₀ k₀ k-end out at k = (k ≤ length bytes) × (length out ≡ length out₀) × PutInRoom from (take k bytes) out₀ at out
+Inv-loop out₀ from bytes at₀ k₀ k-end out at k =
+    (k ≤ length bytes) × (length out ≡ length out₀) × PutInRoom from (take k bytes) out₀ at out
 
 abbrev μ-loop : tie.MeasureT-loop
 μ-loop out₀ from bytes at₀ k₀ k-end out at k = length bytes - k
@@ -34,17 +35,20 @@ loop-less c = search needs
 
 loop-again : tie.Need-loop-again Inv-loop μ-loop
 loop-again c =
-    let s = c .before .before in
-    let t = s .before .before .before .before in
-    (omega arith, omega arith, behind-as (t .loop .inv .2) (s .put .ensures) (one-more (t .before .before .before .args .bytes .now) (t .loop .k) (omega arith)))
+    let put = c .before .before in
+    let lent = put .before .before in
+    let turn = lent .before .before in
+    let more = one-more (turn .before .before .before .args .bytes .now) (turn .loop .k) (omega arith) in
+    (omega arith, omega arith, behind-as (turn .loop .inv .2) (put .put .ensures) more)
 
 same-length : tie.Need-same-length Inv-loop μ-loop
 same-length c = search needs
 
 returns : tie.Need-returns Inv-loop μ-loop
 returns c =
-    let h : length (c .before .before .before .before .args .bytes .now) ≤ c .before .loop .k = omega arith in
-    rw take-all at (c .before .loop .inv .2)
+    let turn = c .before in
+    let h : length (turn .before .before .before .args .bytes .now) ≤ turn .loop .k = omega arith in
+    rw take-all at (turn .loop .inv .2)
 
 pub put-all-spec : {M : Type 1} → statement M
 put-all-spec =

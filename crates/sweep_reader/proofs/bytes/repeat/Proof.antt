@@ -11,7 +11,8 @@ use Rattle.sweep_reader.proofs.bytes.repeat.Statement.{statement}
 use Rattle.sweep_reader.proofs.bytes.repeat.Tie as tie
 
 abbrev Inv-loop : tie.InvT-loop
-Inv-loop out₀ from byte count at₀ k₀ out at k = (k ≤ count) × (length out ≡ length out₀) × PutInRoom from (replicate k byte) out₀ at out
+Inv-loop out₀ from byte count at₀ k₀ out at k =
+    (k ≤ count) × (length out ≡ length out₀) × PutInRoom from (replicate k byte) out₀ at out
 
 abbrev μ-loop : tie.MeasureT-loop
 μ-loop out₀ from byte count at₀ k₀ out at k = count - k
@@ -31,8 +32,11 @@ loop-less c = search needs
 loop-again : tie.Need-loop-again Inv-loop μ-loop
 loop-again c =
     let s = c .before .before in
-    let t = s .before .before .before in
-    (omega arith, omega arith, behind-as (t .loop .inv .2) (s .put .ensures) (again (t .loop .k) (t .before .before .args .byte)))
+    let t = s .before .before .before in (
+      omega arith,
+      omega arith,
+      behind-as (t .loop .inv .2) (s .put .ensures) (again (t .loop .k) (t .before .before .args .byte)),
+    )
 
 same-length : tie.Need-same-length Inv-loop μ-loop
 same-length c = search needs

@@ -27,11 +27,15 @@ same-length-2 c = search needs
 
 returns : tie.Need-returns
 returns c =
-    let s = c .before .before in
-    let m = s .before .before .before .before .before in
-    let p = m .before .before .before .before in
-    let e = m .mended .ensures ∙ ap (mendedIf (p .before .before .before .before .args .change)) (put-set _ _ _ (p .put .ensures)) in
-    (rw e at (s .packet3 .ensures .0), (e, rw e at (s .packet3 .ensures .1)))
+    let read = c .before .before in
+    let back = read .before .before .before in
+    let m = back .before .before in
+    let between = m .before .before in
+    let p = between .before .before in
+    let lent = p .before .before in
+    let start = lent .before .before in
+    let e = m .mended .ensures ∙ ap (mendedIf (start .args .change)) (put-set _ _ _ (p .put .ensures)) in
+    (rw e at (read .packet3 .ensures .0), (e, rw e at (read .packet3 .ensures .1)))
 
 pub changed-spec : {M : Type 1} → statement M
 changed-spec =

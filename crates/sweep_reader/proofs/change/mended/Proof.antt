@@ -11,7 +11,9 @@ same-length : tie.Need-same-length
 same-length c = search needs
 
 returns : tie.Need-returns
-returns c = rw (c .before .before .before .before .if1 .taken) (c .before .before .mend .ensures)
+returns c =
+    let done = c .before .before in
+    rw (done .before .before .if1 .taken) (done .mend .ensures)
 
 returns-2 : tie.Need-returns-2
 returns-2 c = search needs

@@ -32,10 +32,16 @@ loop-less c = search needs
 
 loop-again : tie.Need-loop-again Inv-loop μ-loop
 loop-again c =
-    let s = c .before .before .before .before in
-    let t = s .before .before .before .before in
-    let e = s .changed .ensures in
-    (omega arith, search needs, search needs, values-more _ _ _ _ _ _ _ _ _ _ (t .loop .inv .3) (e .0) (e .1 .0) (e .1 .1))
+    let between = c .before .before in
+    let done = between .before .before in
+    let lent = done .before .before in
+    let turn = lent .before .before in
+    let e = done .changed .ensures in (
+      omega arith,
+      search needs,
+      search needs,
+      values-more _ _ _ _ _ _ _ _ _ _ (turn .loop .inv .3) (e .0) (e .1 .0) (e .1 .1),
+    )
 
 same-length : tie.Need-same-length Inv-loop μ-loop
 same-length c = search needs

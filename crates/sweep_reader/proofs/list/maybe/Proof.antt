@@ -33,7 +33,13 @@ returns c =
     let s = c .before .before .before in
     let t = s .before .before in
     c .entries-fed .ensures
-    ∙ rw (c .before .feed .ensures, s .flag-fed4 .ensures, s .before .flag-fed3 .ensures, t .flag-fed2 .ensures, t .before .flag-fed .ensures)
+    ∙ rw (
+      c .before .feed .ensures,
+      s .flag-fed4 .ensures,
+      s .before .flag-fed3 .ensures,
+      t .flag-fed2 .ensures,
+      t .before .flag-fed .ensures,
+    )
 
 pub maybe-spec : {M : Type 1} → statement M
 maybe-spec =

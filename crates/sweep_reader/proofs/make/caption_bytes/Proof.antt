@@ -14,7 +14,8 @@ use Rattle.sweep_reader.proofs.make.caption_bytes.Statement.{statement}
 use Rattle.sweep_reader.proofs.make.caption_bytes.Tie as tie
 
 abbrev Inv-loop : tie.InvT-loop
-Inv-loop out₀ from number count at₀ k₀ out at k = (k ≤ count) × (length out ≡ length out₀) × PutInRoom from (made (captionByte number) k) out₀ at out
+Inv-loop out₀ from number count at₀ k₀ out at k =
+    (k ≤ count) × (length out ≡ length out₀) × PutInRoom from (made (captionByte number) k) out₀ at out
 
 abbrev μ-loop : tie.MeasureT-loop
 μ-loop out₀ from number count at₀ k₀ out at k = count - k
@@ -36,9 +37,11 @@ loop-less c = search needs
 
 loop-again : tie.Need-loop-again Inv-loop μ-loop
 loop-again c =
-    let s = c .before .before in
-    let t = s .before .before .before .before in
-    (omega arith, omega arith, behind-as (t .loop .inv .2) (rw (s .before .caption-byte .ensures) at (s .put .ensures)) (made-more (captionByte _) _))
+    let put = c .before .before in
+    let made = put .before in
+    let turn = made .before .before .before in
+    let one = rw (made .caption-byte .ensures) at (put .put .ensures) in
+    (omega arith, omega arith, behind-as (turn .loop .inv .2) one (made-more (captionByte _) _))
 
 same-length : tie.Need-same-length Inv-loop μ-loop
 same-length c = search needs

@@ -32,9 +32,11 @@ same-length c = search needs
 returns-2 : tie.Need-returns-2
 unfolding captionsMade
 returns-2 c =
-    let s = c .before .before in
-    let t = s .before .before .before .before in
-    simp (ne-eqb _ _ (t .before .before .before .before .if1 .left)) (behind (t .put-all .ensures) (s .caption-bytes .ensures))
+    let run = c .before .before in
+    let between = run .before .before in
+    let head = between .before .before in
+    let lent = head .before .before in
+    simp (ne-eqb _ _ (lent .before .before .if1 .left)) (behind (head .put-all .ensures) (run .caption-bytes .ensures))
 
 pub captions-spec : {M : Type 1} → statement M
 captions-spec =

@@ -13,7 +13,8 @@ use Rattle.sweep_reader.proofs.make.entries.Statement.{statement}
 use Rattle.sweep_reader.proofs.make.entries.Tie as tie
 
 abbrev Inv-loop : tie.InvT-loop
-Inv-loop out₀ from number count at₀ k₀ out at k = (k ≤ count) × (length out ≡ length out₀) × PutInRoom from (entriesMade number k) out₀ at out
+Inv-loop out₀ from number count at₀ k₀ out at k =
+    (k ≤ count) × (length out ≡ length out₀) × PutInRoom from (entriesMade number k) out₀ at out
 
 abbrev μ-loop : tie.MeasureT-loop
 μ-loop out₀ from number count at₀ k₀ out at k = count - k
@@ -39,8 +40,12 @@ loop-less c = search needs
 loop-again : tie.Need-loop-again Inv-loop μ-loop
 loop-again c =
     let s = c .before .before in
-    let t = s .before .before .before in
-    (omega arith, omega arith, behind-as (t .before .before .loop .inv .2) (rw (t .bytes .ensures) at (s .put-all .ensures)) (entries-more _ _))
+    let t = s .before .before .before in (
+      omega arith,
+      omega arith,
+      behind-as (t .before .before .loop .inv .2) (rw (t .bytes .ensures) at (s .put-all .ensures))
+          (entries-more _ _),
+    )
 
 same-length : tie.Need-same-length Inv-loop μ-loop
 same-length c = search needs

@@ -23,8 +23,9 @@ same-length c = search needs
 returns : tie.Need-returns
 unfolding finished
 returns c =
-    let s = c .before .before in
-    s .mend .ensures ∙ ap (packetMended _) (put-set _ _ _ (s .before .before .before .before .put .ensures))
+    let mend = c .before .before in
+    let between = mend .before .before in
+    mend .mend .ensures ∙ ap (packetMended _) (put-set _ _ _ (between .before .before .put .ensures))
 
 pub finish-spec : {M : Type 1} → statement M
 finish-spec = tie.close (tie.spec cast-put put-requires mend-requires same-length returns)

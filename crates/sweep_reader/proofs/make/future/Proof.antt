@@ -19,8 +19,9 @@ same-length c = search needs
 
 returns : tie.Need-returns
 returns c =
-    let s = c .before .before in
-    behind (s .before .before .before .before .put-all .ensures) (s .repeat .ensures)
+    let rest = c .before .before in
+    let between = rest .before .before in
+    behind (between .before .before .put-all .ensures) (rest .repeat .ensures)
 
 pub future-spec : {M : Type 1} → statement M
 future-spec =

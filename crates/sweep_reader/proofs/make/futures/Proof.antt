@@ -35,10 +35,11 @@ same-length-2 c = search needs
 returns-3 : tie.Need-returns-3
 unfolding futuresMade
 returns-3 c =
-    let s = c .before .before in
-    let t = s .before .before .before .before in
-    let rest = t .before .before .match .rest in
-    simp (ne-eqb _ _ (rest .0 .1), ne-eqb _ _ (rest .1)) (behind (t .future2 .ensures) (s .future3 .ensures))
+    let second = c .before .before in
+    let between = second .before .before in
+    let one = between .before .before in
+    let rest = one .before .before .match .rest in
+    simp (ne-eqb _ _ (rest .0 .1), ne-eqb _ _ (rest .1)) (behind (one .future2 .ensures) (second .future3 .ensures))
 
 pub futures-spec : {M : Type 1} → statement M
 futures-spec =

@@ -33,8 +33,9 @@ same-length-2 c = search needs
 
 returns-2 : tie.Need-returns-2
 returns-2 c =
-    let s = c .before .before in
-    packet-put _ _ _ _ _ (s .before .before .before .before .before .parts .ensures) (s .finish .ensures)
+    let end = c .before .before in
+    let room = end .before .before in
+    packet-put _ _ _ _ _ (room .before .before .before .parts .ensures) (end .finish .ensures)
 
 pub packet-spec : {M : Type 1} → statement M
 packet-spec =

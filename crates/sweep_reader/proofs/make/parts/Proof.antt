@@ -6,6 +6,28 @@ use borrow.Author.Needs.{needs}
 use Rattle.sweep_reader.proofs.make.parts.Statement.{statement}
 use Rattle.sweep_reader.proofs.make.parts.Tie as tie
 
+-- the stations: where each part is put, reached through the part behind it
+abbrev header-put : tie.After-time-code-arg → tie.After-header
+header-put c = c .before .before .before
+
+abbrev time-code-put : tie.After-captions-arg → tie.After-time-code
+time-code-put c = c .before .before .before
+
+abbrev captions-put : tie.After-services-arg → tie.After-captions
+captions-put c = c .before .before .before
+
+abbrev services-put : tie.After-futures-arg → tie.After-services
+services-put c = c .before .before .before
+
+abbrev futures-put : tie.After-footer-arg → tie.After-futures
+futures-put c = c .before .before .before
+
+abbrev footer-put : tie.After-repeat-arg → tie.After-footer
+footer-put c = c .before .before .before
+
+abbrev rest-put : tie.After-slice-known8 → tie.After-repeat
+rest-put c = c .before .before
+
 header-requires : tie.Need-header-requires
 header-requires c κs = search needs
 
@@ -33,14 +55,15 @@ same-length c = search needs
 returns : tie.Need-returns
 unfolding partsMade
 returns c =
-    let f = c .before .before .before .before .before .before in
-    let g = f .before .before .before .before in
-    let h = g .before .before .before .before in
-    let i = h .before .before .before .before in
-    let j = i .before .before .before .before in
-    let k = j .before .before .before .before in
-    behind (behind (behind (behind (behind (behind (k .header .ensures) (j .time-code .ensures)) (i .captions .ensures)) (h .services .ensures)) (g .futures .ensures)) (f .footer .ensures))
-    (c .before .before .repeat .ensures)
+    let rest = rest-put c in
+    let footer = footer-put (rest .before) in
+    let futures = futures-put (footer .before) in
+    let services = services-put (futures .before) in
+    let captions = captions-put (services .before) in
+    let time = time-code-put (captions .before) in
+    let timed = behind (header-put (time .before) .header .ensures) (time .time-code .ensures) in
+    let served = behind (behind timed (captions .captions .ensures)) (services .services .ensures) in
+    behind (behind (behind served (futures .futures .ensures)) (footer .footer .ensures)) (rest .repeat .ensures)
 
 pub parts-spec : {M : Type 1} → statement M
 parts-spec =

@@ -35,9 +35,12 @@ same-length c = search needs
 returns-2 : tie.Need-returns-2
 unfolding servicesMade
 returns-2 c =
-    let s = c .before .before in
-    let t = s .before .before .before .before in
-    simp (ne-eqb _ _ (t .before .before .before .before .before .if1 .left)) (behind (t .put-all .ensures) (s .entries .ensures))
+    let list = c .before .before in
+    let between = list .before .before in
+    let head = between .before .before in
+    let lent = head .before .before in
+    simp (ne-eqb _ _ (lent .before .before .before .if1 .left))
+    (behind (head .put-all .ensures) (list .entries .ensures))
 
 pub services-spec : {M : Type 1} → statement M
 services-spec =

@@ -26,8 +26,9 @@ same-length c = search needs
 returns-2 : tie.Need-returns-2
 unfolding timeCodeMade
 returns-2 c =
-    let s = c .before .before in
-    simp (ne-eqb _ _ (s .before .before .before .before .if1 .left)) (s .put-all .ensures)
+    let put = c .before .before in
+    let lent = put .before .before in
+    simp (ne-eqb _ _ (lent .before .before .if1 .left)) (put .put-all .ensures)
 
 pub time-code-spec : {M : Type 1} → statement M
 time-code-spec =

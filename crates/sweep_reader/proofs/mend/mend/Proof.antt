@@ -64,8 +64,10 @@ returns-2 c =
     let at = length p - m .mender .result in
     let r = c .wrapping-sub-u8 .result in
     mend-done (a .behind) at r p (omega arith) (ap (λ (n : ℕ). length p - n) (m .mender .ensures .0))
-    (mend-byte (a .behind) (length p) (s .sum .result) (c .before .wrapping-add-u8 .result) r (set p at 0) (length-set p at 0)
-    (simp sub-zero at (s .sum .ensures)) (c .before .wrapping-add-u8 .ensures) (c .wrapping-sub-u8 .ensures) (omega (arith, c .wrapping-sub-u8 .ok)))
+    (mend-byte (a .behind) (length p) (s .sum .result) (c .before .wrapping-add-u8 .result) r (set p at 0)
+    (length-set p at 0)
+    (simp sub-zero at (s .sum .ensures)) (c .before .wrapping-add-u8 .ensures) (c .wrapping-sub-u8 .ensures)
+    (omega (arith, c .wrapping-sub-u8 .ok)))
 
 pub mend-spec : {M : Type 1} → statement M
 mend-spec =

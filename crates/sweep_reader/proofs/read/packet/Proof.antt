@@ -28,11 +28,14 @@ same-length c = search needs
 
 returns : tie.Need-returns
 returns c =
-    let s = c .before .before .before in
-    let p = s .before .before .before .before .before .before in
-    let f = p .before .before .before .before in
+    let shown = c .before .before .before in
+    let answered = shown .before .before .before in
+    let p = answered .before .before .before in
+    let between = p .before .before in
+    let f = between .before .before in
     packet-read _ _ _ _ _ _ _ _ _ (f .fill .ensures) (p .parse .ensures .0) (p .parse .ensures .1)
-    (rw (s .reader .ensures, s .before .answer-fed .ensures) at (c .before .all-fed .ensures)) (c .counted .ensures)
+    (rw (shown .reader .ensures, shown .before .answer-fed .ensures) at (c .before .all-fed .ensures))
+    (c .counted .ensures)
 
 pub packet-spec : {M : Type 1} → statement M
 packet-spec =

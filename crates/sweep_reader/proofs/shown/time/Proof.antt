@@ -33,7 +33,14 @@ returns c =
     let s = c .before .before in
     let t = s .before .before in
     c .flag-fed3 .ensures
-    ∙ rw (c .before .flag-fed2 .ensures, s .feed4 .ensures, s .before .feed3 .ensures, t .feed2 .ensures, t .before .feed .ensures, t .before .before .flag-fed .ensures)
+    ∙ rw (
+      c .before .flag-fed2 .ensures,
+      s .feed4 .ensures,
+      s .before .feed3 .ensures,
+      t .feed2 .ensures,
+      t .before .feed .ensures,
+      t .before .before .flag-fed .ensures,
+    )
 
 pub time-spec : {M : Type 1} → statement M
 time-spec =

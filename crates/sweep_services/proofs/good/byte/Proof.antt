@@ -39,7 +39,9 @@ returns-2 c = byte-second _ _ (c .before .if1 .left) (c .if2 .taken)
 returns-3 : tie.Need-returns-3
 returns-3 c =
     let s = c .before .before .before in
-    c .entry-byte .ensures ∙ byte-inside _ _ (s .before .if1 .left) (s .if2 .left) (rw (c .before .before .size .ensures) at (c .before .if3 .taken))
+    c .entry-byte .ensures
+    ∙ byte-inside _ _ (s .before .if1 .left) (s .if2 .left)
+    (rw (c .before .before .size .ensures) at (c .before .if3 .taken))
 
 returns-4 : tie.Need-returns-4
 returns-4 c =

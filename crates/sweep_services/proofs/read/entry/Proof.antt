@@ -28,7 +28,8 @@ is-done-requires c κs = search needs
 returns : tie.Need-returns
 returns c =
     let s = c .before .before in
-    s .feed .ensures ∙ entry-refused _ _ _ _ (s .before .parse .ensures) (sym (c .before .is-done .ensures) ∙ not-true _ (c .if1 .taken))
+    s .feed .ensures
+    ∙ entry-refused _ _ _ _ (s .before .parse .ensures) (sym (c .before .is-done .ensures) ∙ not-true _ (c .if1 .taken))
 
 entry-fed-requires : tie.Need-entry-fed-requires
 entry-fed-requires c κs = search needs
@@ -38,7 +39,9 @@ returns-2 c =
     let t = c .before .before in
     let s = t .before .before in
     c .entry-fed .ensures
-    ∙ rw (s .feed .ensures) (entry-done _ _ _ _ (s .before .parse .ensures) (sym (t .before .is-done .ensures) ∙ not-false _ (t .if1 .left)))
+    ∙ rw (s .feed .ensures)
+    (entry-done _ _ _ _ (s .before .parse .ensures)
+    (sym (t .before .is-done .ensures) ∙ not-false _ (t .if1 .left)))
 
 pub entry-spec : {M : Type 1} → statement M
 entry-spec =

@@ -12,7 +12,8 @@ use Rattle.sweep_services.proofs.read.fill.Statement.{statement}
 use Rattle.sweep_services.proofs.read.fill.Tie as tie
 
 abbrev Inv-loop : tie.InvT-loop
-Inv-loop bytes₀ count at₀ at-end bytes at = (at ≤ length bytes₀) × (length bytes ≡ length bytes₀) × (bytes ≡ filling (goodByte count) at bytes₀)
+Inv-loop bytes₀ count at₀ at-end bytes at =
+    (at ≤ length bytes₀) × (length bytes ≡ length bytes₀) × (bytes ≡ filling (goodByte count) at bytes₀)
 
 abbrev μ-loop : tie.MeasureT-loop
 μ-loop bytes₀ count at₀ at-end bytes at = length bytes₀ - at
@@ -34,8 +35,11 @@ loop-less c = search needs
 
 loop-again : tie.Need-loop-again Inv-loop μ-loop
 loop-again c =
-    let s = c .before .before in
-    (omega arith, simp length-set (omega arith), rw (s .loop .inv .2, c .byte .ensures) (filling-more _ _ _ (omega arith)))
+    let s = c .before .before in (
+      omega arith,
+      simp length-set (omega arith),
+      rw (s .loop .inv .2, c .byte .ensures) (filling-more _ _ _ (omega arith)),
+    )
 
 same-length : tie.Need-same-length Inv-loop μ-loop
 same-length c = search needs

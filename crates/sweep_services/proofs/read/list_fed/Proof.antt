@@ -29,7 +29,8 @@ unfolding listFed
 returns c =
     let s = c .before .before in
     let t = s .before .before in
-    c .entries-fed .ensures ∙ rw (s .feed .ensures, t .flag-fed3 .ensures, t .before .flag-fed2 .ensures, t .before .before .flag-fed .ensures)
+    c .entries-fed .ensures
+    ∙ rw (s .feed .ensures, t .flag-fed3 .ensures, t .before .flag-fed2 .ensures, t .before .before .flag-fed .ensures)
 
 pub list-fed-spec : {M : Type 1} → statement M
 list-fed-spec =

@@ -36,7 +36,8 @@ returns c =
     let s = c .before .before in
     let w = s .before .before in
     s .feed .ensures
-    ∙ time-refused _ _ _ _ (rw (w .before .new .ensures) at (w .to-bytes .ensures)) (sym (c .before .is-done .ensures) ∙ not-true _ (c .if1 .taken))
+    ∙ time-refused _ _ _ _ (rw (w .before .new .ensures) at (w .to-bytes .ensures))
+    (sym (c .before .is-done .ensures) ∙ not-true _ (c .if1 .taken))
 
 slice-aggregate-all-fed : tie.Need-slice-aggregate-all-fed
 slice-aggregate-all-fed c = search needs
@@ -50,7 +51,9 @@ returns-2 c =
     let s = t .before .before in
     let w = s .before .before in
     c .all-fed .ensures
-    ∙ rw (s .feed .ensures) (time-done _ _ _ _ (rw (w .before .new .ensures) at (w .to-bytes .ensures)) (sym (t .before .is-done .ensures) ∙ not-false _ (t .if1 .left)))
+    ∙ rw (s .feed .ensures)
+    (time-done _ _ _ _ (rw (w .before .new .ensures) at (w .to-bytes .ensures))
+    (sym (t .before .is-done .ensures) ∙ not-false _ (t .if1 .left)))
 
 pub time-fed-spec : {M : Type 1} → statement M
 time-fed-spec =

@@ -50,7 +50,20 @@ returns c =
     let seconds = frames .before .before in
     let minutes = seconds .before .before in
     let hours = minutes .before .before in
-    rw (c .new .ensures, drop .flag2 .ensures, drop .before .mark5 .ensures, field .flag .ensures, field .before .mark4 .ensures, frames .small4 .ensures, frames .before .mark3 .ensures, seconds .small3 .ensures, seconds .before .mark2 .ensures, minutes .small2 .ensures, minutes .before .mark .ensures, hours .small .ensures)
+    rw (
+      c .new .ensures,
+      drop .flag2 .ensures,
+      drop .before .mark5 .ensures,
+      field .flag .ensures,
+      field .before .mark4 .ensures,
+      frames .small4 .ensures,
+      frames .before .mark3 .ensures,
+      seconds .small3 .ensures,
+      seconds .before .mark2 .ensures,
+      minutes .small2 .ensures,
+      minutes .before .mark .ensures,
+      hours .small .ensures,
+    )
 
 pub clock-spec : {M : Type 1} → statement M
 clock-spec =

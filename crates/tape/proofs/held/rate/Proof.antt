@@ -24,7 +24,13 @@ returns : tie.Need-returns
 unfolding heldRateAt
 returns c =
     let numer = c .before .before in
-    rw (c .number2 .ensures, c .before .mark2 .ensures, numer .number .ensures, numer .before .mark .ensures, numer .before .before .small .ensures)
+    rw (
+      c .number2 .ensures,
+      c .before .mark2 .ensures,
+      numer .number .ensures,
+      numer .before .mark .ensures,
+      numer .before .before .small .ensures,
+    )
 
 pub rate-spec : {M : Type 1} → statement M
 rate-spec =

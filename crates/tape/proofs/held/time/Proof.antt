@@ -19,7 +19,9 @@ clock-requires c κs = search needs
 
 returns-2 : tie.Need-returns-2
 unfolding heldTimeAt
-returns-2 c = let e = c .before .before .mark .ensures in c .clock .ensures ∙ simp (eq-eqb _ _ (rw e at (c .before .if1 .left)))
+returns-2 c =
+    let e = c .before .before .mark .ensures in
+    c .clock .ensures ∙ simp (eq-eqb _ _ (rw e at (c .before .if1 .left)))
 
 pub time-spec : {M : Type 1} → statement M
 time-spec = tie.close (tie.spec mark-requires returns clock-requires returns-2)

@@ -35,7 +35,16 @@ returns c =
     let wide = c .before .before in
     let easy = wide .before .before in
     let number = easy .before .before in
-    rw (c .in-language .ensures, c .before .new .ensures, wide .flag2 .ensures, wide .before .mark3 .ensures, easy .flag .ensures, easy .before .mark2 .ensures, number .small .ensures, number .before .mark .ensures)
+    rw (
+      c .in-language .ensures,
+      c .before .new .ensures,
+      wide .flag2 .ensures,
+      wide .before .mark3 .ensures,
+      easy .flag .ensures,
+      easy .before .mark2 .ensures,
+      number .small .ensures,
+      number .before .mark .ensures,
+    )
 
 pub digital-spec : {M : Type 1} → statement M
 digital-spec =

@@ -4,12 +4,20 @@ use native.Mathlib.Omega.{arith}
 use Prim.Native.Nat.{_-_}
 use lib.ListN.{length}
 use borrow.Author.Needs.{needs}
-use Rattle.tape.proofs.ListReads.{EntriesRead, entries-count, entries-full, entries-next, entries-none, entries-stopped}
+use Rattle.tape.proofs.ListReads.{
+  EntriesRead,
+  entries-count,
+  entries-full,
+  entries-next,
+  entries-none,
+  entries-stopped,
+}
 use Rattle.tape.proofs.lists.entries.Statement.{statement}
 use Rattle.tape.proofs.lists.entries.Tie as tie
 
 abbrev Inv-loop : tie.InvT-loop
-Inv-loop line from start change complete list₀ at₀ k₀ k-end list at k = EntriesRead line from start change complete list at k
+Inv-loop line from start change complete list₀ at₀ k₀ k-end list at k =
+    EntriesRead line from start change complete list at k
 
 abbrev μ-loop : tie.MeasureT-loop
 μ-loop line from start change complete list₀ at₀ k₀ k-end list at k = length line - k
@@ -30,7 +38,9 @@ entry-requires : tie.Need-entry-requires Inv-loop μ-loop
 entry-requires c κs = search needs
 
 counted-requires : tie.Need-counted-requires Inv-loop μ-loop
-counted-requires c κs = omega (arith, entries-count (c .before .before .before .before .before .loop .inv))
+counted-requires c κs =
+    let mark = c .before .before .before in
+    omega (arith, entries-count (mark .before .before .loop .inv))
 
 add-k : tie.Need-add-k Inv-loop μ-loop
 add-k c = search needs
@@ -39,7 +49,12 @@ loop-less : tie.Need-loop-less Inv-loop μ-loop
 loop-less c = search needs
 
 loop-again : tie.Need-loop-again Inv-loop μ-loop
-loop-again c = entries-next (c .before .before .before .before .before .before .loop .inv) _ _ _ (omega arith) (c .before .before .before .before .mark .ensures) (c .before .before .before .if1 .left) (c .before .before .entry .ensures) (c .counted .ensures)
+loop-again c =
+    let entry = c .before .before in
+    let more = entry .before in
+    let mark = more .before in
+    entries-next (mark .before .before .loop .inv) _ _ _ (omega arith) (mark .mark .ensures) (more .if1 .left)
+    (entry .entry .ensures) (c .counted .ensures)
 
 returns-2 : tie.Need-returns-2 Inv-loop μ-loop
 returns-2 c = entries-full (c .before .loop .inv) (omega arith)

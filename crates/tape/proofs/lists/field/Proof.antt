@@ -34,7 +34,9 @@ unfolding fieldAt
 returns-2 c =
     let p = c .before .before .before in
     let e = rw (p .before .mark .ensures) at (p .mark2 .ensures) in
-    c .in-language2 .ensures ∙ rw (c .before .mark3 .ensures, p .before .mark .ensures) (simp (eq-eqb _ _ (rw e at (c .before .before .if1 .left))))
+    c .in-language2 .ensures
+    ∙ rw (c .before .mark3 .ensures, p .before .mark .ensures)
+    (simp (eq-eqb _ _ (rw e at (c .before .before .if1 .left))))
 
 pub field-spec : {M : Type 1} → statement M
 field-spec =

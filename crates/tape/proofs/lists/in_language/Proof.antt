@@ -25,7 +25,13 @@ unfolding inLanguage
 returns c =
     let third = c .before in
     let first = third .before .before in
-    rw (c .new .ensures, third .byte3 .ensures, third .before .byte2 .ensures, first .byte .ensures, first .before .mark .ensures)
+    rw (
+      c .new .ensures,
+      third .byte3 .ensures,
+      third .before .byte2 .ensures,
+      first .byte .ensures,
+      first .before .mark .ensures,
+    )
 
 pub in-language-spec : {M : Type 1} → statement M
 in-language-spec =

@@ -28,7 +28,14 @@ unfolding listAt
 returns c =
     let complete = c .before in
     let change = complete .before .before in
-    rw (c .entries .ensures, complete .flag3 .ensures, complete .before .mark2 .ensures, change .flag2 .ensures, change .before .mark .ensures, change .before .before .flag .ensures)
+    rw (
+      c .entries .ensures,
+      complete .flag3 .ensures,
+      complete .before .mark2 .ensures,
+      change .flag2 .ensures,
+      change .before .mark .ensures,
+      change .before .before .flag .ensures,
+    )
 
 pub list-spec : {M : Type 1} → statement M
 list-spec =

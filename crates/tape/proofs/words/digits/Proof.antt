@@ -24,7 +24,9 @@ digit-of-requires : tie.Need-digit-of-requires Inv-loop μ-loop
 digit-of-requires c κs = search needs
 
 returns : tie.Need-returns Inv-loop μ-loop
-returns c = digits-stopped (c .before .before .before .before .loop .inv) (omega arith) (omega (arith, c .before .digit-of .ensures))
+returns c =
+    let digit = c .before in
+    digits-stopped (digit .before .before .before .loop .inv) (omega arith) (omega (arith, digit .digit-of .ensures))
 
 grown-requires : tie.Need-grown-requires Inv-loop μ-loop
 grown-requires c κs = search needs
@@ -36,7 +38,10 @@ loop-less : tie.Need-loop-less Inv-loop μ-loop
 loop-less c = search needs
 
 loop-again : tie.Need-loop-again Inv-loop μ-loop
-loop-again c = digits-next (c .before .before .before .before .before .loop .inv) _ _ (omega arith) (c .before .before .digit-of .ensures) (omega arith) (c .grown .ensures)
+loop-again c =
+    let digit = c .before .before in
+    digits-next (digit .before .before .before .loop .inv) _ _ (omega arith) (digit .digit-of .ensures) (omega arith)
+    (c .grown .ensures)
 
 returns-2 : tie.Need-returns-2 Inv-loop μ-loop
 returns-2 c = digits-ended (c .before .loop .inv) (omega arith)

@@ -15,7 +15,9 @@ mark-requires-2 : tie.Need-mark-requires-2
 mark-requires-2 c κs = search needs
 
 returns-2 : tie.Need-returns-2
-returns-2 c = let e = c .before .before .mark .ensures in rw (c .mark2 .ensures) (flag-on _ _ (rw e at (c .before .if1 .left)))
+returns-2 c =
+    let e = c .before .before .mark .ensures in
+    rw (c .mark2 .ensures) (flag-on _ _ (rw e at (c .before .if1 .left)))
 
 pub flag-spec : {M : Type 1} → statement M
 flag-spec = tie.close (tie.spec mark-requires returns mark-requires-2 returns-2)

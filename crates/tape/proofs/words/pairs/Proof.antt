@@ -24,7 +24,9 @@ same-length : tie.Need-same-length Inv-loop μ-loop
 same-length c = search needs
 
 returns : tie.Need-returns Inv-loop μ-loop
-returns c = pairs-stopped (c .before .before .before .before .loop .inv) _ (c .before .before .byte .ensures) (c .if1 .taken)
+returns c =
+    let read = c .before .before in
+    pairs-stopped (read .before .before .loop .inv) _ (read .byte .ensures) (c .if1 .taken)
 
 slice-write-given : tie.Need-slice-write-given Inv-loop μ-loop
 slice-write-given c = search needs
@@ -36,7 +38,9 @@ loop-less : tie.Need-loop-less Inv-loop μ-loop
 loop-less c = search needs
 
 loop-again : tie.Need-loop-again Inv-loop μ-loop
-loop-again c = pairs-next (c .before .before .before .before .loop .inv) _ (omega arith) (c .before .before .byte .ensures) (c .if1 .left)
+loop-again c =
+    let read = c .before .before in
+    pairs-next (read .before .before .loop .inv) _ (omega arith) (read .byte .ensures) (c .if1 .left)
 
 same-length-2 : tie.Need-same-length-2 Inv-loop μ-loop
 same-length-2 c = search needs

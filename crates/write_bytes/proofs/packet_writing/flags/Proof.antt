@@ -6,10 +6,13 @@ use Rattle.write_bytes.proofs.packet_writing.flags.Statement.{statement
 use Rattle.write_bytes.proofs.packet_writing.flags.Tie as tie
 
 returns : tie.Need-returns
-returns c = flags-without (c .before .before .args .time-code) (c .before .before .args .service-info) (not-true _ (c .if1 .taken))
+returns c =
+    flags-without (c .before .before .args .time-code) (c .before .before .args .service-info)
+    (not-true _ (c .if1 .taken))
 
 returns-2 : tie.Need-returns-2
-returns-2 c = flags-with (c .before .before .args .time-code) (c .before .before .args .service-info) (not-false _ (c .if1 .left))
+returns-2 c =
+    flags-with (c .before .before .args .time-code) (c .before .before .args .service-info) (not-false _ (c .if1 .left))
 
 pub flags-spec : {M : Type 1} → statement M
 flags-spec = tie.close (tie.spec returns returns-2)

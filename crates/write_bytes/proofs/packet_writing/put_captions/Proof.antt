@@ -34,7 +34,15 @@ same-length : tie.Need-same-length
 same-length c = search needs
 
 returns : tie.Need-returns
-returns c = (refl, c .before .before .put2 .ensures .1 ∙ rw (c .before .before .before .before .before .before .put .ensures .1) (captions-put (c .before .before .before .before .before .before .before .before .before .before .before .args .at) _ _ (c .before .before .before .before .before .before .before .before .before .before .before .pre .1)))
+returns c =
+    let run-put = c .before .before in
+    let between = run-put .before .before in
+    let head-put = between .before .before in
+    let made = head-put .before .before in
+    let s = made .before .before .before in (
+      refl,
+      run-put .put2 .ensures .1 ∙ rw (head-put .put .ensures .1) (captions-put (s .args .at) _ _ (s .pre .1)),
+    )
 
 pub put-captions-spec : {M : Type 1} → statement M
 put-captions-spec =

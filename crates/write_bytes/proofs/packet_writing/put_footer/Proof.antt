@@ -1,7 +1,6 @@
 -- `write_bytes::packet_writing::put_footer`: the id and the sequence, and the checksum of all before it.
 -- Assumes nothing.
-use mathlib.Core.Path.{_∙_}
-use mathlib.Core.Path.{sym}
+use mathlib.Core.Path.{_∙_, sym}
 use native.Mathlib.Omega.{arith}
 use lib.Seq.{length-take-le}
 use Rattle.write_bytes.proofs.Parts.{footer-put}
@@ -47,10 +46,17 @@ same-length c = search needs
 
 returns : tie.Need-returns
 returns c =
-    let s = c .before .before .before .before .before .before .before .before .before .before .before .before .before .before in
-    let p = c .before .before .before .before .before .before .before .before .before .put .ensures .1 in
-    let e = c .before .before .before .before .before .before .before .before .before .before .before .before .sequence-bytes .ensures in
-    c .before .before .put2 .ensures .1 ∙ rw (p, e) (footer-put (s .args .at) (s .args .out .now) (s .args .sequence) (s .pre) _ (rw (p, e) at (c .before .before .before .before .before .checksum-byte .ensures)))
+    let end = c .before .before in
+    let sum = end .before .before .before in
+    let between = sum .before .before in
+    let footer = between .before .before in
+    let made = footer .before .before .before in
+    let s = made .before .before in
+    let p = footer .put .ensures .1 in
+    let e = made .sequence-bytes .ensures in
+    end .put2 .ensures .1
+    ∙ rw (p, e) (footer-put (s .args .at) (s .args .out .now) (s .args .sequence) (s .pre) _
+    (rw (p, e) at (sum .checksum-byte .ensures)))
 
 pub put-footer-spec : {M : Type 1} → statement M
 put-footer-spec =

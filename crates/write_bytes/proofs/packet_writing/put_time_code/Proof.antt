@@ -36,9 +36,17 @@ same-length c = search needs
 
 returns-2 : tie.Need-returns-2
 returns-2 c =
-    let s = c .before .before .before .before .before .before .before .before .before .before .before .before .before .before .before in
-    let p = time-put (s .args .at) (s .args .out .now) (s .args .time-code) (not-false _ (c .before .before .before .before .before .before .before .before .before .before .before .before .if1 .left)) (s .pre .0) (s .pre .1) in
-    (p .0, c .before .before .put2 .ensures .1 ∙ rw (c .before .before .before .before .before .before .before .put .ensures .1, c .before .before .before .before .before .before .before .before .before .before .before .to-bytes .ensures) (p .1))
+    let bytes-put = c .before .before in
+    let between = bytes-put .before .before .before in
+    let id-put = between .before .before in
+    let lent = id-put .before .before in
+    let made = lent .before .before in
+    let held = made .before in
+    let s = held .before .before .before in
+    let p =
+    time-put (s .args .at) (s .args .out .now) (s .args .time-code) (not-false _ (held .if1 .left)) (s .pre .0)
+    (s .pre .1) in
+    (p .0, bytes-put .put2 .ensures .1 ∙ rw (id-put .put .ensures .1, made .to-bytes .ensures) (p .1))
 
 pub put-time-code-spec : {M : Type 1} → statement M
 put-time-code-spec =

@@ -8,6 +8,13 @@ use borrow.Author.Needs.{needs}
 use Rattle.write_bytes.proofs.packet_writing.write_packet.Statement.{statement}
 use Rattle.write_bytes.proofs.packet_writing.write_packet.Tie as tie
 
+-- the stations: where the values are tested, and where they are accepted
+abbrev tested : tie.After-is-done → tie.After-writable
+tested c = c .before .before
+
+abbrev accepted : tie.Else2 → tie.Else1
+accepted c = c .before
+
 writable-requires : tie.Need-writable-requires
 writable-requires c κs = search needs
 
@@ -16,7 +23,7 @@ is-done-requires c κs = search needs
 
 returns : tie.Need-returns
 returns c =
-    let e = c .before .before .before .writable .ensures in
+    let e = tested (c .before) .writable .ensures in
     rw e (packet-refused _ _ _ _ _ _ (rw e at (sym (c .before .is-done .ensures) ∙ not-true _ (c .if1 .taken))))
 
 buffer-too-short-requires : tie.Need-buffer-too-short-requires
@@ -24,12 +31,19 @@ buffer-too-short-requires c κs = search needs
 
 returns-2 : tie.Need-returns-2
 returns-2 c =
-    let both = packet-right _ _ _ _ _ (c .before .before .before .before .before .writable .ensures) (sym (c .before .before .before .is-done .ensures) ∙ not-false _ (c .before .before .if1 .left)) in
-    rw (c .buffer-too-short .ensures, both .1) (packet-no-room _ _ _ _ _ _ (both .0) (rw (both .1) at (c .before .if2 .taken)))
+    let right = c .before .before in
+    let both =
+    packet-right _ _ _ _ _ (tested (right .before) .writable .ensures)
+    (sym (right .before .is-done .ensures) ∙ not-false _ (right .if1 .left)) in
+    rw (c .buffer-too-short .ensures, both .1)
+    (packet-no-room _ _ _ _ _ _ (both .0) (rw (both .1) at (c .before .if2 .taken)))
 
 put-packet-requires : tie.Need-put-packet-requires
 put-packet-requires c κs =
-    let both = packet-right _ _ _ _ _ (c .before .before .before .before .before .writable .ensures) (sym (c .before .before .before .is-done .ensures) ∙ not-false _ (c .before .before .if1 .left)) in
+    let right = accepted (c .before) in
+    let both =
+    packet-right _ _ _ _ _ (tested (right .before) .writable .ensures)
+    (sym (right .before .is-done .ensures) ∙ not-false _ (right .if1 .left)) in
     (both .0, (both .1, c .before .if2 .left))
 
 done-requires : tie.Need-done-requires
@@ -40,10 +54,14 @@ same-length c = search needs
 
 returns-3 : tie.Need-returns-3
 returns-3 c =
-    let s = c .before .before .before in
-    let t = s .before .before .before .before in
-    let both = packet-right _ _ _ _ _ (t .before .before .writable .ensures) (sym (t .is-done .ensures) ∙ not-false _ (s .before .before .before .if1 .left)) in
-    rw (c .done .ensures, both .1, s .put-packet .ensures) (packet-fits _ _ _ _ _ _ (both .0) (rw (both .1) at (s .before .before .if2 .left)))
+    let put = c .before .before .before in
+    let room = put .before .before in
+    let right = accepted room in
+    let both =
+    packet-right _ _ _ _ _ (tested (right .before) .writable .ensures)
+    (sym (right .before .is-done .ensures) ∙ not-false _ (right .if1 .left)) in
+    rw (c .done .ensures, both .1, put .put-packet .ensures)
+    (packet-fits _ _ _ _ _ _ (both .0) (rw (both .1) at (room .if2 .left)))
 
 pub write-packet-spec : {M : Type 1} → statement M
 write-packet-spec =

@@ -7,6 +7,16 @@ use borrow.Author.Needs.{needs}
 use Rattle.write_checks.proofs.checks.services_tested.Statement.{statement}
 use Rattle.write_checks.proofs.checks.services_tested.Tie as tie
 
+-- the stations: where a list is held, and where it is tested
+abbrev entered : tie.Else1 → tie.Start
+entered c = c .before .before
+
+abbrev list-held : tie.After-writable → tie.Else1
+list-held c = c .before
+
+abbrev list-tested : tie.After-is-done → tie.After-writable
+list-tested c = c .before
+
 done-requires : tie.Need-done-requires
 done-requires c κs = search needs
 
@@ -14,7 +24,9 @@ alone-requires : tie.Need-alone-requires
 alone-requires c κs = search needs
 
 returns : tie.Need-returns
-returns c = c .alone .ensures ∙ rw (c .before .done .ensures) (no-list (c .before .before .before .before .args .service-info) (not-true _ (c .before .before .if1 .taken)))
+returns c =
+    let absent = c .before .before in
+    c .alone .ensures ∙ rw (c .before .done .ensures) (no-list _ (not-true _ (absent .if1 .taken)))
 
 writable-requires : tie.Need-writable-requires
 writable-requires c κs = search needs
@@ -27,16 +39,24 @@ alone-requires-2 c κs = search needs
 
 returns-2 : tie.Need-returns-2
 returns-2 c =
-    let e = c .before .before .before .writable .ensures in
-    c .alone2 .ensures ∙ rw e (bad-list (c .before .before .before .before .before .before .args .service-info) (not-false _ (c .before .before .before .before .if1 .left)) (rw e at (sym (c .before .before .is-done .ensures) ∙ not-true _ (c .before .if2 .taken))))
+    let done = c .before .before in
+    let tested = list-tested done in
+    let e = tested .writable .ensures in
+    c .alone2 .ensures
+    ∙ rw e (bad-list (entered (list-held tested) .args .service-info) (not-false _ (list-held tested .if1 .left))
+    (rw e at (sym (done .is-done .ensures) ∙ not-true _ (c .before .if2 .taken))))
 
 byte-len-requires : tie.Need-byte-len-requires
 byte-len-requires c κs = search needs
 
 returns-3 : tie.Need-returns-3
 returns-3 c =
-    let e = c .before .before .before .writable .ensures in
-    rw (c .byte-len .ensures, e) (good-list (c .before .before .before .before .before .before .args .service-info) (not-false _ (c .before .before .before .before .if1 .left)) (rw e at (sym (c .before .before .is-done .ensures) ∙ not-false _ (c .before .if2 .left))))
+    let done = c .before .before in
+    let tested = list-tested done in
+    let e = tested .writable .ensures in
+    rw (c .byte-len .ensures, e)
+    (good-list (entered (list-held tested) .args .service-info) (not-false _ (list-held tested .if1 .left))
+    (rw e at (sym (done .is-done .ensures) ∙ not-false _ (c .before .if2 .left))))
 
 pub services-tested-spec : {M : Type 1} → statement M
 services-tested-spec =

@@ -7,6 +7,16 @@ use borrow.Author.Needs.{needs}
 use Rattle.write_checks.proofs.checks.time_code_tested.Statement.{statement}
 use Rattle.write_checks.proofs.checks.time_code_tested.Tie as tie
 
+-- the stations: where a time code is held, and where its bytes are made
+abbrev entered : tie.Else1 → tie.Start
+entered c = c .before .before
+
+abbrev time-code-held : tie.After-to-bytes → tie.Else1
+time-code-held c = c .before
+
+abbrev bytes-made : tie.After-is-done → tie.After-to-bytes
+bytes-made c = c .before .before
+
 done-requires : tie.Need-done-requires
 done-requires c κs = search needs
 
@@ -14,7 +24,9 @@ alone-requires : tie.Need-alone-requires
 alone-requires c κs = search needs
 
 returns : tie.Need-returns
-returns c = c .alone .ensures ∙ rw (c .before .done .ensures) (no-time (c .before .before .before .before .args .time-code) (not-true _ (c .before .before .if1 .taken)))
+returns c =
+    let absent = c .before .before in
+    c .alone .ensures ∙ rw (c .before .done .ensures) (no-time _ (not-true _ (absent .if1 .taken)))
 
 to-bytes-requires : tie.Need-to-bytes-requires
 to-bytes-requires c κs = search needs
@@ -27,13 +39,19 @@ alone-requires-2 c κs = search needs
 
 returns-2 : tie.Need-returns-2
 returns-2 c =
-    let e = c .before .before .before .before .to-bytes .ensures in
-    c .alone2 .ensures ∙ rw e (bad-time (c .before .before .before .before .before .before .before .args .time-code) (not-false _ (c .before .before .before .before .before .if1 .left)) (rw e at (sym (c .before .before .is-done .ensures) ∙ not-true _ (c .before .if2 .taken))))
+    let done = c .before .before in
+    let made = bytes-made done in
+    let e = made .to-bytes .ensures in
+    c .alone2 .ensures
+    ∙ rw e (bad-time (entered (time-code-held made) .args .time-code) (not-false _ (time-code-held made .if1 .left))
+    (rw e at (sym (done .is-done .ensures) ∙ not-true _ (c .before .if2 .taken))))
 
 returns-3 : tie.Need-returns-3
 returns-3 c =
-    let e = c .before .before .before .to-bytes .ensures in
-    rw e (good-time (c .before .before .before .before .before .before .args .time-code) (not-false _ (c .before .before .before .before .if1 .left)) (rw e at (sym (c .before .is-done .ensures) ∙ not-false _ (c .if2 .left))))
+    let made = bytes-made (c .before) in
+    let e = made .to-bytes .ensures in
+    rw e (good-time (entered (time-code-held made) .args .time-code) (not-false _ (time-code-held made .if1 .left))
+    (rw e at (sym (c .before .is-done .ensures) ∙ not-false _ (c .if2 .left))))
 
 pub time-code-tested-spec : {M : Type 1} → statement M
 time-code-tested-spec =

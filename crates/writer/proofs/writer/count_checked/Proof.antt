@@ -20,7 +20,9 @@ done-requires-2 : tie.Need-done-requires-2
 done-requires-2 c κs = search needs
 
 returns-3 : tie.Need-returns-3
-returns-3 c = c .done2 .ensures ∙ count-fine _ (not-false _ (c .before .before .before .before .if1 .left)) (c .before .if2 .left)
+returns-3 c =
+    let few = c .before in
+    c .done2 .ensures ∙ count-fine _ (not-false _ (few .before .before .before .if1 .left)) (few .if2 .left)
 
 pub count-checked-spec : {M : Type 1} → statement M
 count-checked-spec = tie.close (tie.spec done-requires returns returns-2 done-requires-2 returns-3)

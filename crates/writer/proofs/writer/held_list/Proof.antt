@@ -10,7 +10,8 @@ absent-requires : tie.Need-absent-requires
 absent-requires c κs = search needs
 
 returns : tie.Need-returns
-returns c = c .absent .ensures ∙ rw (not-true (c .before .before .before .args .service-info .present) (c .before .if1 .taken))
+returns c =
+    c .absent .ensures ∙ rw (not-true (c .before .before .before .args .service-info .present) (c .before .if1 .taken))
 
 returns-2 : tie.Need-returns-2
 returns-2 c = rw (not-false (c .before .before .args .service-info .present) (c .if1 .left))

@@ -15,7 +15,9 @@ returns : tie.Need-returns
 returns c = search needs
 
 returns-2 : tie.Need-returns-2
-returns-2 c = rw (c .before .before .before .before .service .given .1) (simp (le-leb _ _ (c .before .if1 .taken)))
+returns-2 c =
+    let numbered = c .before in
+    rw (numbered .before .before .before .service .given .1) (simp (le-leb _ _ (numbered .if1 .taken)))
 
 returns-3 : tie.Need-returns-3
 returns-3 c = rw (c .before .before .before .service .given .1) (simp (lt-leb _ _ (c .if1 .left)))

@@ -45,7 +45,9 @@ returns-4 : tie.Need-returns-4
 returns-4 c =
     let s = c .before in
     c .refused4 .ensures
-    ∙ no-3F _ (s .before .before .if1 .left) (⊎-elim (λ w. inl (w .0 .taken, w .1 .left)) (λ w. inr (w .0 .left, w .1 .left)) (s .before .if2 .came)) (s .if5 .taken)
+    ∙ no-3F _ (s .before .before .if1 .left)
+    (⊎-elim (λ w. inl (w .0 .taken, w .1 .left)) (λ w. inr (w .0 .left, w .1 .left)) (s .before .if2 .came))
+    (s .if5 .taken)
 
 refused-requires-5 : tie.Need-refused-requires-5
 refused-requires-5 c κs = search needs
@@ -54,7 +56,9 @@ returns-5 : tie.Need-returns-5
 returns-5 c =
     let s = c .before in
     c .refused5 .ensures
-    ∙ no-FF _ (s .before .before .before .if1 .left) (⊎-elim (λ w. inl (w .0 .taken, w .1 .left)) (λ w. inr (w .0 .left, w .1 .left)) (s .before .before .if2 .came)) (s .before .if5 .left) (s .if6 .taken)
+    ∙ no-FF _ (s .before .before .before .if1 .left)
+    (⊎-elim (λ w. inl (w .0 .taken, w .1 .left)) (λ w. inr (w .0 .left, w .1 .left)) (s .before .before .if2 .came))
+    (s .before .if5 .left) (s .if6 .taken)
 
 done-requires : tie.Need-done-requires
 done-requires c κs = search needs
@@ -66,7 +70,9 @@ returns-6 : tie.Need-returns-6
 returns-6 c =
     let s = c .before .before in
     rw (c .before .done .ensures, c .of-bytes .ensures)
-    (all-right _ (s .before .before .before .if1 .left) (⊎-elim (λ w. inl (w .0 .taken, w .1 .left)) (λ w. inr (w .0 .left, w .1 .left)) (s .before .before .if2 .came)) (s .before .if5 .left) (s .if6 .left))
+    (all-right _ (s .before .before .before .if1 .left)
+    (⊎-elim (λ w. inl (w .0 .taken, w .1 .left)) (λ w. inr (w .0 .left, w .1 .left)) (s .before .before .if2 .came))
+    (s .before .if5 .left) (s .if6 .left))
 
 pub parse-spec : {M : Type 1} → statement M
 parse-spec =

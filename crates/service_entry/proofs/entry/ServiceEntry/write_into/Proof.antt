@@ -21,7 +21,8 @@ buffer-too-short-requires c κs = search needs
 returns-2 : tie.Need-returns-2
 returns-2 c =
     let tests = c .before .before in
-    rw (c .buffer-too-short .ensures) (entry-no-room _ _ (sym (tests .before .is-writable .ensures) ∙ not-false _ (tests .if1 .left)) (omega arith))
+    rw (c .buffer-too-short .ensures)
+    (entry-no-room _ _ (sym (tests .before .is-writable .ensures) ∙ not-false _ (tests .if1 .left)) (omega arith))
 
 bytes-requires : tie.Need-bytes-requires
 bytes-requires c κs = search needs
@@ -40,10 +41,13 @@ same-length c = search needs
 
 returns-3 : tie.Need-returns-3
 returns-3 c =
-    let tests = c .before .before .before .before .before .before .before in
-    let can = sym (tests .before .before .is-writable .ensures) ∙ not-false _ (tests .before .if1 .left) in
-    let bytes = c .before .before .before .before .before .before .bytes .ensures ∙ six-of (c .before .before .before .before .before .before .before .before .before .before .before .args .self) can in
-    rw (c .done .ensures, c .before .before .before .put .ensures .1, bytes) (entry-fits _ _ can (omega arith))
+    let put = c .before .before .before in
+    let made = put .before .before .before in
+    let right = made .before .before in
+    let tested = right .before in
+    let can = sym (tested .is-writable .ensures) ∙ not-false _ (right .if1 .left) in
+    let bytes = made .bytes .ensures ∙ six-of (tested .before .before .args .self) can in
+    rw (c .done .ensures, put .put .ensures .1, bytes) (entry-fits _ _ can (omega arith))
 
 pub write-into-spec : {M : Type 1} → statement M
 write-into-spec =

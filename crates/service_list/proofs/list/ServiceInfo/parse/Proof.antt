@@ -21,7 +21,8 @@ returns : tie.Need-returns
 returns c =
     let done = c .before .before in
     let e = done .before .before .read-entries .ensures in
-    c .refused .ensures ∙ rw e (list-refused _ (rw e at (sym (done .is-done .ensures) ∙ not-true _ (c .before .if1 .taken))))
+    c .refused .ensures
+    ∙ rw e (list-refused _ (rw e at (sym (done .is-done .ensures) ∙ not-true _ (c .before .if1 .taken))))
 
 shared-slice-read-with : tie.Need-shared-slice-read-with
 shared-slice-read-with c =

@@ -24,8 +24,12 @@ same-length c = search needs
 
 returns : tie.Need-returns
 returns c =
-    let s = c .before .before .before .before .before .before in
-    c .before .before .put-entries .ensures ∙ rw (s .put .ensures .1, s .before .before .before .before .header-byte .ensures) (head-and-entries _ _ (omega arith))
+    let entries = c .before .before in
+    let between = entries .before .before in
+    let head = between .before .before in
+    let lent = head .before .before in
+    entries .put-entries .ensures
+    ∙ rw (head .put .ensures .1, lent .before .before .header-byte .ensures) (head-and-entries _ _ (omega arith))
 
 pub put-section-spec : {M : Type 1} → statement M
 put-section-spec =

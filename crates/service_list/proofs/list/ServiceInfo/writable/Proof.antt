@@ -21,7 +21,10 @@ done-requires : tie.Need-done-requires
 done-requires c κs = search needs
 
 returns-3 : tie.Need-returns-3
-returns-3 c = rw (c .done .ensures) (all-writable _ (omega arith) (sym (c .before .before .all-writable .ensures) ∙ not-false _ (c .before .if2 .left)))
+returns-3 c =
+    rw (c .done .ensures)
+    (all-writable _ (omega arith)
+    (sym (c .before .before .all-writable .ensures) ∙ not-false _ (c .before .if2 .left)))
 
 pub writable-spec : {M : Type 1} → statement M
 writable-spec =

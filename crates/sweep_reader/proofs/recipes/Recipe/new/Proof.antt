@@ -72,7 +72,26 @@ returns-10 c = c .row10 .ensures ∙ row-at _ 9 (c .before .match .keys10)
 returns-11 : tie.Need-returns-11
 returns-11 c =
     let rest = c .before .match .rest in
-    c .row11 .ensures ∙ row-last _ (over-next _ 9 (over-next _ 8 (over-next _ 7 (over-next _ 6 (over-next _ 5 (over-next _ 4 (over-next _ 3 (over-next _ 2 (over-next _ 1 (over-first _ (rest .0 .0 .0 .0 .0 .0 .0 .0 .0 .1)) (rest .0 .0 .0 .0 .0 .0 .0 .0 .1)) (rest .0 .0 .0 .0 .0 .0 .0 .1)) (rest .0 .0 .0 .0 .0 .0 .1)) (rest .0 .0 .0 .0 .0 .1)) (rest .0 .0 .0 .0 .1)) (rest .0 .0 .0 .1)) (rest .0 .0 .1)) (rest .0 .1)) (rest .1))
+    c .row11 .ensures
+    ∙ row-last _
+    (over-next _ 9
+    (over-next _ 8
+    (over-next _ 7
+    (over-next _ 6
+    (over-next _ 5
+    (over-next _ 4
+    (over-next _ 3
+    (over-next _ 2
+    (over-next _ 1 (over-first _ (rest .0 .0 .0 .0 .0 .0 .0 .0 .0 .1))
+    (rest .0 .0 .0 .0 .0 .0 .0 .0 .1))
+    (rest .0 .0 .0 .0 .0 .0 .0 .1))
+    (rest .0 .0 .0 .0 .0 .0 .1))
+    (rest .0 .0 .0 .0 .0 .1))
+    (rest .0 .0 .0 .0 .1))
+    (rest .0 .0 .0 .1))
+    (rest .0 .0 .1))
+    (rest .0 .1))
+    (rest .1))
 
 pub new-spec : {M : Type 1} → statement M
 new-spec =

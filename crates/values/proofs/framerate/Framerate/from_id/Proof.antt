@@ -55,7 +55,10 @@ returns-8 : tie.Need-returns-8
 returns-8 c = c .known8 .ensures ∙ rw (c .before .match .keys8) (rows .7)
 
 returns-9 : tie.Need-returns-9
-returns-9 c = let h = c .match .rest in no-row _ (h .0 .0 .0 .0 .0 .0 .0 .1) (h .0 .0 .0 .0 .0 .0 .1) (h .0 .0 .0 .0 .0 .1) (h .0 .0 .0 .0 .1) (h .0 .0 .0 .1) (h .0 .0 .1) (h .0 .1) (h .1)
+returns-9 c =
+    let h = c .match .rest in
+    no-row _ (h .0 .0 .0 .0 .0 .0 .0 .1) (h .0 .0 .0 .0 .0 .0 .1) (h .0 .0 .0 .0 .0 .1) (h .0 .0 .0 .0 .1)
+    (h .0 .0 .0 .1) (h .0 .0 .1) (h .0 .1) (h .1)
 
 pub from-id-spec : {M : Type 1} → statement M
 from-id-spec =

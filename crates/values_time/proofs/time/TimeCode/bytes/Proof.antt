@@ -36,10 +36,11 @@ add-t11 c = search needs
 
 returns : tie.Need-returns
 returns c =
+    let flagged = c .before .before .before in
     simp (
-      c .before .before .before .before .before .digit-bits .ensures,
-      c .before .before .before .before .digit-bits2 .ensures,
-      c .before .before .before .flag .ensures .0,
+      flagged .before .before .digit-bits .ensures,
+      flagged .before .digit-bits2 .ensures,
+      flagged .flag .ensures .0,
       c .before .before .digit-bits3 .ensures,
       c .before .flag2 .ensures .0,
       c .digit-bits4 .ensures,
