@@ -51,7 +51,8 @@ module _ (p : List ℕ) (i : ℕ) where
         no-E0 a = simp (there, le-leb _ _ long, eq-eqb _ _ id, ne-eqb _ _ a)
 
         module _ (fixed : byte p (i + 1) / 32 % 8 ≡ 7) where
-          pub captions-cut : length p < i + (2 + 3 * count) → alone (refused (LengthMismatch (i + (2 + 3 * count)) (length p))) ≡ captionsTested p present i
+          pub captions-cut : length p < i + (2 + 3 * count)
+              → alone (refused (LengthMismatch (i + (2 + 3 * count)) (length p))) ≡ captionsTested p present i
           unfolding captionsTested
           captions-cut a = simp (there, le-leb _ _ long, eq-eqb _ _ id, eq-eqb _ _ fixed, as-count, lt-leb _ _ a)
 
@@ -62,7 +63,9 @@ module _ (p : List ℕ) (i : ℕ) where
   -- an accepted section has all its bytes
   pub captions-there : verdict (captionsChecks p i) ≡ clear → i + captionsSize p i ≤ length p
   captions-there h =
-      leb-true _ _ (fourth (sizeCheck p (i + 2)) (check (eqb (byte p i) captionsId) WrongMagic) (check (allSet xE0 (byte p (i + 1))) InvalidFixedBits) (sizeCheck p (i + captionsSize p i)) h)
+      leb-true _ _
+      (fourth (sizeCheck p (i + 2)) (check (eqb (byte p i) captionsId) WrongMagic)
+      (check (allSet xE0 (byte p (i + 1))) InvalidFixedBits) (sizeCheck p (i + captionsSize p i)) h)
 
   pub handed-long : i + captionsSize p i ≤ length p → length (handedOut p i) ≡ captionsSize p i
   handed-long h = simp (length-take-le (3 * captionCount p i) (drop (i + 2) p) (rw length-drop (omega arith))) (omega arith)

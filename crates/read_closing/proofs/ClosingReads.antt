@@ -11,7 +11,15 @@ use Rattle.basis.specs.Answer.{ChecksumFailed, LengthMismatch, SequenceCountMis
 use Rattle.basis.specs.Bytes.{byte}
 use Rattle.basis.specs.Check.{Verdict, answer, verdict}
 use Rattle.values.specs.Sequence.{sequenceOf}
-use Rattle.read_closing.specs.Closing.{checksumOf, closingChecks, footerChecks, footerFrom, futureChecks, futureChecksAt, futureLength}
+use Rattle.read_closing.specs.Closing.{
+  checksumOf,
+  closingChecks,
+  footerChecks,
+  footerFrom,
+  futureChecks,
+  futureChecksAt,
+  futureLength,
+}
 use Rattle.read_closing.specs.Code.{closingRead, footerRead}
 
 -- rule 9
@@ -21,7 +29,8 @@ module _ (p : List ℕ) (sequence i : ℕ) where
   footer-short a = simp (lt-leb _ _ a)
 
   module _ (long : i + 4 ≤ length p) where
-    pub other-sequence : (sequenceOf (byte p (i + 1)) (byte p (i + 2)) ≡ sequence → ⊥) → refused SequenceCountMismatch ≡ footerRead p sequence i
+    pub other-sequence : (sequenceOf (byte p (i + 1)) (byte p (i + 2)) ≡ sequence → ⊥)
+        → refused SequenceCountMismatch ≡ footerRead p sequence i
     unfolding footerRead
     other-sequence a = simp (le-leb _ _ long, ne-eqb _ _ a)
 
@@ -55,19 +64,24 @@ module _ (p : List ℕ) (sequence at : ℕ) where
   begins a = record { turns = length p; inside = a; enough = omega arith; left = simp (le-leb _ _ a) }
 
   module _ (i : ℕ) where
-    ahead-footer : (turns : ℕ) → 0 < turns → byte p i ≡ 0x74 → ahead p sequence turns i ≡ verdict (footerChecks p sequence i)
+    ahead-footer : (turns : ℕ) → 0 < turns → byte p i ≡ 0x74
+        → ahead p sequence turns i ≡ verdict (footerChecks p sequence i)
     unfolding ahead
     ahead-footer zero h id = absurd (omega arith)
     ahead-footer (suc k) h id = simp (eq-eqb _ _ id)
 
     ahead-future : (turns : ℕ) → 0 < turns → (byte p i ≡ 0x74 → ⊥)
-        → ahead p sequence turns i ≡ andThen (verdict (futureChecksAt p i)) (ahead p sequence (turns - 1) (i + 2 + futureLength p i))
+        → ahead p sequence turns i
+        ≡ andThen (verdict (futureChecksAt p i)) (ahead p sequence (turns - 1) (i + 2 + futureLength p i))
     unfolding ahead
     ahead-future zero h id = absurd (omega arith)
     ahead-future (suc k) h id =
         let e : suc k - 1 ≡ k = omega arith in
         let behind : ℕ = i + 2 + futureLength p i in
-        rw e (simp (ne-eqb _ _ id) (verdict-append (futureChecksAt p i) (futureChecks k p behind ++ footerChecks p sequence (footerFrom k p behind))))
+        rw e
+        (simp (ne-eqb _ _ id)
+        (verdict-append (futureChecksAt p i)
+        (futureChecks k p behind ++ footerChecks p sequence (footerFrom k p behind))))
 
   module _ (i : ℕ) (r : Reached p sequence at i) where
     pub footer-reached : byte p i ≡ 0x74 → footerRead p sequence i ≡ closingRead p sequence at
@@ -75,7 +89,9 @@ module _ (p : List ℕ) (sequence at : ℕ) where
     footer-reached id = ap (λ (v : Verdict). answer v 0) (sym (ahead-footer i (r .turns) (omega arith) id)) ∙ r .left
 
     module _ (other : byte p i ≡ 0x74 → ⊥) where
-      as-turn : answer (andThen (verdict (futureChecksAt p i)) (ahead p sequence (r .turns - 1) (i + 2 + byte p (i + 1)))) 0 ≡ closingRead p sequence at
+      as-turn :
+          answer (andThen (verdict (futureChecksAt p i)) (ahead p sequence (r .turns - 1) (i + 2 + byte p (i + 1)))) 0
+          ≡ closingRead p sequence at
       as-turn = ap (λ (v : Verdict). answer v 0) (sym (ahead-future i (r .turns) (omega arith) other)) ∙ r .left
 
       pub id-low : byte p i < 0x75 → refused WrongMagic ≡ closingRead p sequence at
@@ -86,7 +102,8 @@ module _ (p : List ℕ) (sequence at : ℕ) where
         id-high a = simp (le-leb _ _ low, lt-leb _ _ a) at as-turn
 
         module _ (high : byte p i ≤ 0xEF) where
-          pub future-cut : length p < i + 1 + byte p (i + 1) → refused (LengthMismatch (i + 1 + byte p (i + 1)) (length p)) ≡ closingRead p sequence at
+          pub future-cut : length p < i + 1 + byte p (i + 1)
+              → refused (LengthMismatch (i + 1 + byte p (i + 1)) (length p)) ≡ closingRead p sequence at
           future-cut a = simp (le-leb _ _ low, le-leb _ _ high, lt-leb _ _ a) at as-turn
 
           module _ (fits : i + 1 + byte p (i + 1) ≤ length p) where

@@ -1,5 +1,5 @@
--- Where rules 8 and 9 are kept: the walk has come to a footer, so that as many turns as the packet has bytes are enough,
--- and the footer has its checksum.
+-- Where rules 8 and 9 are kept: the walk has come to a footer, so that as many turns as the packet has bytes are
+-- enough, and the footer has its checksum.
 -- Assumes nothing.
 use mathlib.Core.Bool.{Bool, true, false, cond, _&&_}
 use mathlib.Core.List.{List, [], _∷_, _++_}
@@ -65,5 +65,6 @@ checksum-kept p sequence i h =
     let future : List Check = futureChecks (length p) p i in
     let footer : verdict (size ∷ same ∷ sum ∷ []) ≡ clear =
     and-second (verdict future) (verdict (size ∷ same ∷ sum ∷ []))
-    (sym (verdict-append future (size ∷ same ∷ sum ∷ [])) ∙ kept-rest (sizeCheck p (i + 2)) (future ++ size ∷ same ∷ sum ∷ []) h) in
+    (sym (verdict-append future (size ∷ same ∷ sum ∷ []))
+    ∙ kept-rest (sizeCheck p (i + 2)) (future ++ size ∷ same ∷ sum ∷ []) h) in
     eqb-true _ _ (kept-first sum [] (kept-rest same (sum ∷ []) (kept-rest size (same ∷ sum ∷ []) footer)))

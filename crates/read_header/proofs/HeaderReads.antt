@@ -39,6 +39,8 @@ module _ (p : List ℕ) where
           no-rate a = simp (le-leb _ _ long, eq-eqb _ _ first, eq-eqb _ _ second, eq-eqb _ _ size, a)
 
           pub header-whole : rateOf p .present ≡ true
-              → _≡_ {A = Header} (record { answer = done 0; framerate = rateOf p; flags = flagsIn p; sequence = sequenceIn p }) (headerRead p)
+              → _≡_ {A = Header}
+              (record { answer = done 0; framerate = rateOf p; flags = flagsIn p; sequence = sequenceIn p })
+              (headerRead p)
           unfolding headerRead
           header-whole a = simp (le-leb _ _ long, eq-eqb _ _ first, eq-eqb _ _ second, eq-eqb _ _ size, a)

@@ -48,23 +48,28 @@ both a b h k = rw (h, k)
 all-append : (xs ys : List Check) → all xs ≡ true → all ys ≡ true → all (xs ++ ys) ≡ true
 all-append [] ys a b = b
 all-append (x ∷ xs) ys a b =
-    both (ofPacket (x .refusal)) (all (xs ++ ys)) (and-left (ofPacket (x .refusal)) (all xs) a) (all-append xs ys (and-right (ofPacket (x .refusal)) (all xs) a) b)
+    both (ofPacket (x .refusal)) (all (xs ++ ys)) (and-left (ofPacket (x .refusal)) (all xs) a)
+    (all-append xs ys (and-right (ofPacket (x .refusal)) (all xs) a) b)
 
 all-when : (present : Bool) (cs : List Check) → all cs ≡ true → all (when present cs) ≡ true
 all-when true cs a = a
 all-when false cs a = refl
 
 -- an entry: what its kind byte is refused with depends on that byte
-kind-all : (digital kept kept′ : Bool) → (ofPacket (cond digital (check kept Table.InvalidServiceNumber) (check kept′ Table.InvalidFixedBits) .refusal) && true) ≡ true
+kind-all : (digital kept kept′ : Bool)
+    → (ofPacket (cond digital (check kept Table.InvalidServiceNumber) (check kept′ Table.InvalidFixedBits) .refusal)
+    && true) ≡ true
 kind-all true kept kept′ = refl
 kind-all false kept kept′ = refl
 
 at-all : (d : List ℕ) (at : ℕ) → all (checksAt d at) ≡ true
-at-all d at = kind-all (allSet x80 (byte d (at + 4))) (not (allClear x3F (byte d (at + 4)))) (allSet x3E (byte d (at + 4)))
+at-all d at =
+    kind-all (allSet x80 (byte d (at + 4))) (not (allClear x3F (byte d (at + 4)))) (allSet x3E (byte d (at + 4)))
 
 entries-all : (d : List ℕ) (at n : ℕ) → all (entryListChecks d at n) ≡ true
 entries-all d at zero = refl
-entries-all d at (suc n) = all-append (checksAt d at) (entryListChecks d (at + 7) n) (at-all d at) (entries-all d (at + 7) n)
+entries-all d at (suc n) =
+    all-append (checksAt d at) (entryListChecks d (at + 7) n) (at-all d at) (entries-all d (at + 7) n)
 
 section-all : (d : List ℕ) → all (sectionChecks d) ≡ true
 unfolding sectionChecks
@@ -77,16 +82,22 @@ turn false cs a = a
 
 future-all : (turns : ℕ) (p : List ℕ) (i : ℕ) → all (futureChecks turns p i) ≡ true
 future-all zero p i = refl
-future-all (suc turns) p i = turn (eqb (byte p i) footerId) (futureChecksAt p i ++ futureChecks turns p (i + 2 + futureLength p i)) (future-all turns p (i + 2 + futureLength p i))
+future-all (suc turns) p i =
+    turn (eqb (byte p i) footerId) (futureChecksAt p i ++ futureChecks turns p (i + 2 + futureLength p i))
+    (future-all turns p (i + 2 + futureLength p i))
 
 -- all of a packet's checks
 services-all : (p : List ℕ) (i : ℕ) → all (servicesChecks p (flagsIn p) i) ≡ true
 services-all p i =
-    all-append (sectionChecks (servicesPart p i)) (check (sameFlags (listOf (servicesPart p i)) (flagsIn p)) Table.ServiceFlagsMismatched ∷ []) (section-all (servicesPart p i)) refl
+    all-append (sectionChecks (servicesPart p i))
+    (check (sameFlags (listOf (servicesPart p i)) (flagsIn p)) Table.ServiceFlagsMismatched ∷ [])
+    (section-all (servicesPart p i)) refl
 
 closing-all : (p : List ℕ) (sequence i : ℕ) → all (closingChecks p sequence i) ≡ true
 unfolding closingChecks
-closing-all p sequence i = all-append (futureChecks (length p) p i) (footerChecks p sequence (footerFrom (length p) p i)) (future-all (length p) p i) refl
+closing-all p sequence i =
+    all-append (futureChecks (length p) p i) (footerChecks p sequence (footerFrom (length p) p i))
+    (future-all (length p) p i) refl
 
 packet-all : (p : List ℕ) → all (packetChecks p) ≡ true
 unfolding packetChecks
@@ -97,21 +108,25 @@ packet-all p =
     let closing : List Check = closingChecks p (sequenceIn p) (closingAt p) in
     all-append time (captions ++ (services ++ closing)) (all-when (flagsIn p .«time_code») (timeCodeChecks p 7) refl)
     (all-append captions (services ++ closing) (all-when (flagsIn p .«cc_data») (captionsChecks p (captionsAt p)) refl)
-    (all-append services closing (all-when (flagsIn p .«svc_info») (servicesChecks p (flagsIn p) (servicesAt p)) (services-all p (servicesAt p))) (closing-all p (sequenceIn p) (closingAt p))))
+    (all-append services closing
+    (all-when (flagsIn p .«svc_info») (servicesChecks p (flagsIn p) (servicesAt p)) (services-all p (servicesAt p)))
+    (closing-all p (sequenceIn p) (closingAt p))))
 
 -- a verdict that, where it refuses, refuses with 1 to 9
 abbrev pub fine : Verdict → Bool
 fine clear = true
 fine (broken why) = ofPacket why
 
-step : (kept : Bool) (v : Verdict) (why : Refusal) → ofPacket why ≡ true → fine v ≡ true → fine (cond kept v (broken why)) ≡ true
+step : (kept : Bool) (v : Verdict) (why : Refusal) → ofPacket why ≡ true → fine v ≡ true
+    → fine (cond kept v (broken why)) ≡ true
 step true v why a b = b
 step false v why a b = a
 
 from-all : (cs : List Check) → all cs ≡ true → fine (verdict cs) ≡ true
 from-all [] a = refl
 from-all (c ∷ cs) a =
-    step (c .kept) (verdict cs) (c .refusal) (and-left (ofPacket (c .refusal)) (all cs) a) (from-all cs (and-right (ofPacket (c .refusal)) (all cs) a))
+    step (c .kept) (verdict cs) (c .refusal) (and-left (ofPacket (c .refusal)) (all cs) a)
+    (from-all cs (and-right (ofPacket (c .refusal)) (all cs) a))
 
 pub packet-fine : (p : List ℕ) → fine (verdict (packetChecks p)) ≡ true
 packet-fine p = from-all (packetChecks p) (packet-all p)

@@ -1,4 +1,5 @@
--- A packet, section by section: what the definition gives where a section is the first that is refused, and where none is.
+-- A packet, section by section: what the definition gives where a section is the first that is refused,
+-- and where none is.
 -- Assumes nothing.
 use mathlib.Core.Bool.{Bool, true, false, _&&_, true≢false}
 use mathlib.Core.List.{List, [], _∷_, _++_}
@@ -8,7 +9,16 @@ use native.Mathlib.Omega.{arith}
 use borrow.Author.Tests.{eqb-true}
 use lib.Dec.{eqb}
 use lib.ListN.{length}
-use Rattle.basis.proofs.Verdicts.{and-first, and-second, andThen, done-clear, kept-first, kept-rest, refused-stays, verdict-append}
+use Rattle.basis.proofs.Verdicts.{
+  and-first,
+  and-second,
+  andThen,
+  done-clear,
+  kept-first,
+  kept-rest,
+  refused-stays,
+  verdict-append,
+}
 use Rattle.basis.specs.Answer.{LengthMismatch, UnknownFramerate, WrongMagic, done}
 use Rattle.basis.specs.Bytes.{byte}
 use Rattle.values.specs.Layout.{leastSize}
@@ -39,17 +49,20 @@ use Rattle.basis.specs.declared.tested.Tested.{Tested}
 abbrev pub given : Verdict → ℕ → Checked → Checked
 given v length shown = ifClear v shown (refusedChecked (answer v length))
 
-given-refused : (v : Verdict) (k length : ℕ) (shown : Checked) → eqb (answer v k .number) 0 ≡ false → refusedChecked (answer v k) ≡ given v length shown
+given-refused : (v : Verdict) (k length : ℕ) (shown : Checked) → eqb (answer v k .number) 0 ≡ false
+    → refusedChecked (answer v k) ≡ given v length shown
 given-refused clear k length shown h = absurd (true≢false h)
 given-refused (broken why) k length shown h = refl
 
 -- five lists of checks, one after the other
 five-parts : (a b c d e : List Check)
-    → verdict (a ++ (b ++ (c ++ (d ++ e)))) ≡ andThen (verdict a) (andThen (verdict b) (andThen (verdict c) (andThen (verdict d) (verdict e))))
+    → verdict (a ++ (b ++ (c ++ (d ++ e))))
+    ≡ andThen (verdict a) (andThen (verdict b) (andThen (verdict c) (andThen (verdict d) (verdict e))))
 five-parts a b c d e =
     verdict-append a (b ++ (c ++ (d ++ e)))
     ∙ ap (andThen (verdict a))
-    (verdict-append b (c ++ (d ++ e)) ∙ ap (andThen (verdict b)) (verdict-append c (d ++ e) ∙ ap (andThen (verdict c)) (verdict-append d e)))
+    (verdict-append b (c ++ (d ++ e))
+    ∙ ap (andThen (verdict b)) (verdict-append c (d ++ e) ∙ ap (andThen (verdict c)) (verdict-append d e)))
 
 -- what each part gives, and what it shows where it is accepted
 abbrev pub headerShown : List ℕ → Header
@@ -136,7 +149,8 @@ module _ (p : List ℕ) where
       given-refused v k (captionsLength p) (checkedShown p) h
       ∙ ap (λ (u : Verdict). given u (captionsLength p) (checkedShown p)) (sym (e ∙ refused-stays v w k h))
 
-  pub header-refused : eqb (headerRead p .answer .number) 0 ≡ false → refusedChecked (headerRead p .answer) ≡ checkedRead p
+  pub header-refused : eqb (headerRead p .answer .number) 0 ≡ false
+      → refusedChecked (headerRead p .answer) ≡ checkedRead p
   unfolding headerRead
   header-refused h = stops header _ 0 in-order h
 
@@ -150,9 +164,12 @@ module _ (p : List ℕ) where
     header-is = ap headed header-clear
 
     behind-header : verdict (packetChecks p) ≡ andThen timeCode (andThen captions (andThen services closing))
-    behind-header = in-order ∙ ap (λ (v : Verdict). andThen v (andThen timeCode (andThen captions (andThen services closing)))) header-clear
+    behind-header =
+        in-order
+        ∙ ap (λ (v : Verdict). andThen v (andThen timeCode (andThen captions (andThen services closing)))) header-clear
 
-    pub time-code-refused : eqb (timeCodeAsked p .answer .number) 0 ≡ false → refusedChecked (timeCodeAsked p .answer) ≡ checkedRead p
+    pub time-code-refused : eqb (timeCodeAsked p .answer .number) 0 ≡ false
+        → refusedChecked (timeCodeAsked p .answer) ≡ checkedRead p
     unfolding timeCodeRead
     time-code-refused h = stops timeCode _ _ behind-header h
 
@@ -190,15 +207,18 @@ module _ (p : List ℕ) where
         behind-header header-done
         ∙ ap (λ (v : Verdict). andThen v (andThen captions (andThen services closing))) (time-code-clear time-code-done)
 
-    pub captions-refused : eqb (captionsAsked p .answer .number) 0 ≡ false → refusedChecked (captionsAsked p .answer) ≡ checkedRead p
+    pub captions-refused : eqb (captionsAsked p .answer .number) 0 ≡ false
+        → refusedChecked (captionsAsked p .answer) ≡ checkedRead p
     unfolding captionsTested
     captions-refused h = stops captions _ _ behind-time-code h
 
     module _ (captions-done : eqb (captionsAsked p .answer .number) 0 ≡ true) where
       behind-captions : verdict (packetChecks p) ≡ andThen services closing
-      behind-captions = behind-time-code ∙ ap (λ (v : Verdict). andThen v (andThen services closing)) (captions-clear captions-done)
+      behind-captions =
+          behind-time-code ∙ ap (λ (v : Verdict). andThen v (andThen services closing)) (captions-clear captions-done)
 
-      pub services-refused : eqb (servicesAsked p .answer .number) 0 ≡ false → refusedChecked (servicesAsked p .answer) ≡ checkedRead p
+      pub services-refused : eqb (servicesAsked p .answer .number) 0 ≡ false
+          → refusedChecked (servicesAsked p .answer) ≡ checkedRead p
       unfolding servicesTested
       services-refused h = stops services _ _ behind-captions h
 
@@ -212,7 +232,9 @@ module _ (p : List ℕ) where
 
         pub packet-whole : eqb (closingAsked p .number) 0 ≡ true → checkedShown p ≡ checkedRead p
         unfolding closingRead checkedRead
-        packet-whole h = ap (λ (v : Verdict). given v (captionsLength p) (checkedShown p)) (sym (behind-services ∙ done-clear closing 0 h))
+        packet-whole h =
+            ap (λ (v : Verdict). given v (captionsLength p) (checkedShown p))
+            (sym (behind-services ∙ done-clear closing 0 h))
 
   -- the parts of an accepted packet: its size is the one that it says, and captions, services and footer are clear
   pub size-of-packet : verdict (packetChecks p) ≡ clear → byte p 2 ≡ length p
@@ -220,23 +242,34 @@ module _ (p : List ℕ) where
       let size : Check = check (eqb (byte p 2) (length p)) (LengthMismatch (byte p 2) (length p)) in
       let rate : List Check = check (rateOf p .present) UnknownFramerate ∷ [] in
       let magic : Check = check (eqb (byte p 0) 0x96 && eqb (byte p 1) 0x69) WrongMagic in
-      eqb-true _ _ (kept-first size rate (kept-rest magic (size ∷ rate) (kept-rest (sizeCheck p leastSize) (magic ∷ size ∷ rate) (and-first header _ (sym in-order ∙ h)))))
+      eqb-true _ _
+      (kept-first size rate
+      (kept-rest magic (size ∷ rate)
+      (kept-rest (sizeCheck p leastSize) (magic ∷ size ∷ rate) (and-first header _ (sym in-order ∙ h)))))
 
   pub captions-of-packet : verdict (packetChecks p) ≡ clear → captions ≡ clear
   captions-of-packet h = and-first _ _ (and-second timeCode _ (and-second header _ (sym in-order ∙ h)))
 
   pub services-of-packet : verdict (packetChecks p) ≡ clear → services ≡ clear
-  services-of-packet h = and-first _ _ (and-second captions _ (and-second timeCode _ (and-second header _ (sym in-order ∙ h))))
+  services-of-packet h =
+      and-first _ _ (and-second captions _ (and-second timeCode _ (and-second header _ (sym in-order ∙ h))))
 
   pub closing-of-packet : verdict (packetChecks p) ≡ clear → closing ≡ clear
-  closing-of-packet h = and-second services _ (and-second captions _ (and-second timeCode _ (and-second header _ (sym in-order ∙ h))))
+  closing-of-packet h =
+      and-second services _ (and-second captions _ (and-second timeCode _ (and-second header _ (sym in-order ∙ h))))
 
   -- the places fit a byte
   pub captions-near : captionsAt p ≤ 12
   captions-near = omega (arith, sizeWhen-most (flagsIn p .«time_code») 5 5 (omega arith))
 
   pub services-near : servicesAt p ≤ 107
-  services-near = omega (arith, captions-near, sizeWhen-most (flagsIn p .«cc_data») (captionsSize p (captionsAt p)) 95 (omega arith))
+  services-near =
+      omega (arith, captions-near, sizeWhen-most (flagsIn p .«cc_data») (captionsSize p (captionsAt p)) 95 (omega arith))
 
   pub closing-near : closingAt p ≤ 214
-  closing-near = omega (arith, services-near, sizeWhen-most (flagsIn p .«svc_info») (servicesSize p (servicesAt p)) 107 (omega arith))
+  closing-near =
+      omega (
+        arith,
+        services-near,
+        sizeWhen-most (flagsIn p .«svc_info») (servicesSize p (servicesAt p)) 107 (omega arith),
+      )

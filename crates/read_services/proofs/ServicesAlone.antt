@@ -1,5 +1,5 @@
--- Where the section is whole and the header has its three flags, all that is left of rule 7 are the section's own rules;
--- and where rule 7 is kept, these are, and the flags are the same.
+-- Where the section is whole and the header has its three flags, all that is left of rule 7 are the section's own
+-- rules; and where rule 7 is kept, these are, and the flags are the same.
 -- Assumes nothing.
 use mathlib.Core.Bool.{Bool, Bool·beq, true, false, false≢true}
 use mathlib.Core.List.{List, [], _∷_, _++_}
@@ -57,7 +57,11 @@ module _ (p : List ℕ) (f : Flags) (i : ℕ) where
   pub alone : i + servicesSize p i ≤ length p → byte p i ≡ servicesId → FlagsOf f (listOf own)
       → verdict (servicesChecks p f i) ≡ verdict (sectionChecks own)
   alone fits id flags =
-      simp (le-leb (i + 2) (length p) (omega (arith, fits)), eq-eqb _ _ id, le-leb (i + servicesSize p i) (length p) fits)
+      simp (
+        le-leb (i + 2) (length p) (omega (arith, fits)),
+        eq-eqb _ _ id,
+        le-leb (i + servicesSize p i) (length p) fits,
+      )
       (verdict-append (sectionChecks own) (flagsCheck ∷ [])
       ∙ ap (andThen (verdict (sectionChecks own))) (rw (agree (listOf own) f flags))
       ∙ and-clear (verdict (sectionChecks own)))
@@ -78,4 +82,6 @@ module _ (p : List ℕ) (f : Flags) (i : ℕ) where
     own-kept = and-first (verdict (sectionChecks own)) (verdict (flagsCheck ∷ [])) own-and-flags
 
     pub flags-kept : FlagsOf f (listOf own)
-    flags-kept = agreed (listOf own) f (kept-first flagsCheck [] (and-second (verdict (sectionChecks own)) (verdict (flagsCheck ∷ [])) own-and-flags))
+    flags-kept =
+        agreed (listOf own) f
+        (kept-first flagsCheck [] (and-second (verdict (sectionChecks own)) (verdict (flagsCheck ∷ [])) own-and-flags))

@@ -9,7 +9,15 @@ use borrow.Author.Tests.{eq-eqb, ne-eqb, le-leb, leb-true, lt-leb, not-true, not
 use lib.Dec.{eqb}
 use lib.ListN.{length}
 use Rattle.basis.proofs.Places.{byte-of-part}
-use Rattle.basis.proofs.Verdicts.{andThen, done-clear, kept-first, kept-rest, refused-shows, refused-stays, verdict-append}
+use Rattle.basis.proofs.Verdicts.{
+  andThen,
+  done-clear,
+  kept-first,
+  kept-rest,
+  refused-shows,
+  refused-stays,
+  verdict-append,
+}
 use Rattle.basis.specs.Answer.{LengthMismatch, ServiceFlagsMismatched, WrongMagic, done, refused}
 use Rattle.basis.specs.Bytes.{byte, part}
 use Rattle.basis.specs.Check.{Check, Verdict, check, clear, sizeCheck, verdict}
@@ -45,7 +53,8 @@ module _ (b : ℕ) (f : Flags) where
     unfolding sameFlags
     change-differs a = simp (not-false sameStart start, not-true sameChange a)
 
-    pub complete-decides : not sameChange ≡ false → Bool·beq (eqb (b / 16 % 2) 1) (f .«svc_info_complete») ≡ sameFlags (listWith b []) f
+    pub complete-decides : not sameChange ≡ false
+        → Bool·beq (eqb (b / 16 % 2) 1) (f .«svc_info_complete») ≡ sameFlags (listWith b []) f
     unfolding sameFlags
     complete-decides a = simp (not-false sameStart start, not-false sameChange a)
 
@@ -89,23 +98,27 @@ module _ (p : List ℕ) (f : Flags) (i : ℕ) where
       other-id a = simp (there, le-leb _ _ long, ne-eqb _ _ a)
 
       module _ (id : byte p i ≡ 0x73) where
-        pub entries-cut : length p < i + size → alone (refused (LengthMismatch (i + size) (length p))) ≡ servicesTested p f i
+        pub entries-cut : length p < i + size
+            → alone (refused (LengthMismatch (i + size) (length p))) ≡ servicesTested p f i
         unfolding servicesTested
         entries-cut a = simp (there, le-leb _ _ long, eq-eqb _ _ id, as-count, lt-leb _ _ a)
 
         module _ (fits : i + size ≤ length p) where
           -- behind the section's own rules stands the test of the flags
-          as-parts : tested (andThen (verdict (sectionChecks bytes)) (verdict (flagsCheck ∷ []))) size ≡ servicesTested p f i
+          as-parts : tested (andThen (verdict (sectionChecks bytes)) (verdict (flagsCheck ∷ []))) size
+              ≡ servicesTested p f i
           unfolding servicesTested
           as-parts =
               ap (λ (v : Verdict). tested v size) (sym (verdict-append (sectionChecks bytes) (flagsCheck ∷ [])))
               ∙ simp (there, le-leb _ _ long, eq-eqb _ _ id, as-count, as-size, le-leb _ _ fits)
 
-          pub section-refused : eqb (sectionAnswer bytes .number) 0 ≡ false → alone (sectionAnswer bytes) ≡ servicesTested p f i
+          pub section-refused : eqb (sectionAnswer bytes .number) 0 ≡ false
+              → alone (sectionAnswer bytes) ≡ servicesTested p f i
           unfolding sectionAnswer
           section-refused h =
               refused-shows measured (verdict (sectionChecks bytes)) 0 0 size 0 h
-              ∙ ap (λ (v : Verdict). tested v size) (sym (refused-stays (verdict (sectionChecks bytes)) (verdict (flagsCheck ∷ [])) 0 h))
+              ∙ ap (λ (v : Verdict). tested v size)
+              (sym (refused-stays (verdict (sectionChecks bytes)) (verdict (flagsCheck ∷ [])) 0 h))
               ∙ as-parts
 
           -- byte 1 of the section, as the code has it, has the list's flags
@@ -120,7 +133,8 @@ module _ (p : List ℕ) (f : Flags) (i : ℕ) where
             unfolding sectionAnswer
             own-clear = done-clear _ 0 kept
 
-            pub other-flags : sameFlags (listWith (byte p (i + 1)) []) f ≡ false → alone (refused ServiceFlagsMismatched) ≡ servicesTested p f i
+            pub other-flags : sameFlags (listWith (byte p (i + 1)) []) f ≡ false
+                → alone (refused ServiceFlagsMismatched) ≡ servicesTested p f i
             other-flags h =
                 let differ : sameFlags (listOf bytes) f ≡ false = sym the-flags ∙ h in
                 simp (own-clear, differ) at as-parts
@@ -133,7 +147,9 @@ module _ (p : List ℕ) (f : Flags) (i : ℕ) where
   -- an accepted section has all its bytes
   pub section-there : verdict (servicesChecks p f i) ≡ clear → i + servicesSize p i ≤ length p
   section-there h =
-      let own : List Check = sectionChecks (servicesPart p i) ++ check (sameFlags (listOf (servicesPart p i)) f) ServiceFlagsMismatched ∷ [] in
+      let own : List Check =
+      sectionChecks (servicesPart p i) ++ check (sameFlags (listOf (servicesPart p i)) f) ServiceFlagsMismatched ∷ [] in
       let long : Check = sizeCheck p (i + servicesSize p i) in
       let id : Check = check (eqb (byte p i) servicesId) WrongMagic in
-      leb-true _ _ (kept-first long own (kept-rest id (long ∷ own) (kept-rest (sizeCheck p (i + 2)) (id ∷ long ∷ own) h)))
+      leb-true _ _
+      (kept-first long own (kept-rest id (long ∷ own) (kept-rest (sizeCheck p (i + 2)) (id ∷ long ∷ own) h)))

@@ -45,7 +45,8 @@ module _ (p : List ℕ) (i : ℕ) where
   not-there present a = simp a
 
   module _ (present : Bool) (there : present ≡ true) where
-    pub too-short : length p < i + 5 → noTimeCode (refused (LengthMismatch (i + 5) (length p))) ≡ timeCodeRead p present i
+    pub too-short : length p < i + 5
+        → noTimeCode (refused (LengthMismatch (i + 5) (length p))) ≡ timeCodeRead p present i
     unfolding timeCodeRead
     too-short a = simp (there, lt-leb _ _ a)
 
@@ -59,7 +60,8 @@ module _ (p : List ℕ) (i : ℕ) where
         unfolding timeCodeRead
         as-section = simp (there, le-leb _ _ long, eq-eqb _ _ id)
 
-        pub bytes-wrong : eqb (fourRead .answer .number) 0 ≡ false → noTimeCode (fourRead .answer) ≡ timeCodeRead p present i
+        pub bytes-wrong : eqb (fourRead .answer .number) 0 ≡ false
+            → noTimeCode (fourRead .answer) ≡ timeCodeRead p present i
         unfolding timeRead
         bytes-wrong h = refused-so fourVerdict (timeCodeIn p i) h ∙ as-section
 

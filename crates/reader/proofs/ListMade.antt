@@ -33,7 +33,14 @@ module _ (p : List ℕ) (i size : ℕ) where
 
   same-six : (at : ℕ) → at + 7 ≤ size → sixBehind p (i + at) ≡ sixBehind inside at
   same-six at h =
-      rw (same-byte at 1 (omega arith), same-byte at 2 (omega arith), same-byte at 3 (omega arith), same-byte at 4 (omega arith), same-byte at 5 (omega arith), same-byte at 6 (omega arith))
+      rw (
+        same-byte at 1 (omega arith),
+        same-byte at 2 (omega arith),
+        same-byte at 3 (omega arith),
+        same-byte at 4 (omega arith),
+        same-byte at 5 (omega arith),
+        same-byte at 6 (omega arith),
+      )
 
   pub entries-inside : (at n : ℕ) → at + 7 * n ≤ size → entriesOf p (i + at) n ≡ entriesOf inside at n
   entries-inside at zero h = refl
@@ -54,7 +61,8 @@ module _ (p : List ℕ) (f : Flags) (i : ℕ) where
       record {
         present = on;
         «service_info» =
-            list (eqb (headerOf on / 64 % 2) 1) (eqb (headerOf on / 32 % 2) 1) (eqb (headerOf on / 16 % 2) 1) (filled (entriesOf p (i + 2) (headerOf on % 16))) (headerOf on % 16);
+            list (eqb (headerOf on / 64 % 2) 1) (eqb (headerOf on / 32 % 2) 1) (eqb (headerOf on / 16 % 2) 1)
+            (filled (entriesOf p (i + 2) (headerOf on % 16))) (headerOf on % 16);
       }
 
   module _ (kept : verdict (servicesChecks p f i) ≡ clear) where
@@ -66,8 +74,10 @@ module _ (p : List ℕ) (f : Flags) (i : ℕ) where
 
     list-inside : made true ≡ listPresent (listOf (servicesPart p i))
     list-inside =
-        let places : entriesOf p (i + 2) (byte p (i + 1) % 16) ≡ entriesOf (servicesPart p i) 2 (countOf (servicesPart p i)) =
-        entries-inside p i (servicesSize p i) 2 (byte p (i + 1) % 16) (omega arith) ∙ ap (entriesOf (servicesPart p i) 2) (sym count-is) in
+        let places : entriesOf p (i + 2) (byte p (i + 1) % 16)
+        ≡ entriesOf (servicesPart p i) 2 (countOf (servicesPart p i)) =
+        entries-inside p i (servicesSize p i) 2 (byte p (i + 1) % 16) (omega arith)
+        ∙ ap (entriesOf (servicesPart p i) 2) (sym count-is) in
         ap listPresent
         (Lists.with-is (byte p (i + 1)) (filled (entriesOf p (i + 2) (byte p (i + 1) % 16)))
         ∙ ap₂ listWith (sym (byte-one p i)) (ap filled places)

@@ -22,13 +22,15 @@ use Rattle.read_packet.specs.declared.checked.Checked.{Checked}
 use Rattle.values.specs.declared.flags.Flags.{Flags}
 
 -- a packet before its list is made has the same answer
-given-answer : (v : Verdict) (length : ℕ) (shown : Checked) → shown .answer ≡ done length → given v length shown .answer ≡ answer v length
+given-answer : (v : Verdict) (length : ℕ) (shown : Checked) → shown .answer ≡ done length
+    → given v length shown .answer ≡ answer v length
 given-answer clear length shown e = e
 given-answer (broken why) length shown e = refl
 
 -- a refused packet shows what a new reader does
 none : (v : Verdict) (length : ℕ) (s : CDPParser) (at : ℕ) → eqb (answer v length .number) 0 ≡ false
-    → _≡_ {A = PacketRead} (refusedPacket (answer v length)) (record { answer = answer v length; shown = ifClear v s freshReader; «captions_at» = ifClear v at 0 })
+    → _≡_ {A = PacketRead} (refusedPacket (answer v length))
+    (record { answer = answer v length; shown = ifClear v s freshReader; «captions_at» = ifClear v at 0 })
 none clear length s at h = absurd (true≢false h)
 none (broken why) length s at h = refl
 
@@ -39,7 +41,9 @@ module _ (p : List ℕ) where
 
   pub accepts : eqb (packetRead p .answer .number) 0 ≡ true → checkedRead p ≡ checkedShown p
   unfolding packetRead checkedRead
-  accepts h = done-value (verdict (packetChecks p)) (captionsLength p) (checkedShown p) (refusedChecked (answer (verdict (packetChecks p)) (captionsLength p))) h
+  accepts h =
+      done-value (verdict (packetChecks p)) (captionsLength p) (checkedShown p)
+      (refusedChecked (answer (verdict (packetChecks p)) (captionsLength p))) h
 
   -- a packet's answer decides what it shows
   pub none-shown : eqb (packetRead p .answer .number) 0 ≡ false → refusedPacket (packetRead p .answer) ≡ packetRead p
@@ -51,7 +55,8 @@ module _ (p : List ℕ) where
   packet-clear h = done-clear (verdict (packetChecks p)) (captionsLength p) h
 
   pub all-shown : eqb (packetRead p .answer .number) 0 ≡ true
-      → _≡_ {A = PacketRead} (record { answer = done (captionsLength p); shown = shownBy p; «captions_at» = captionsAt p }) (packetRead p)
+      → _≡_ {A = PacketRead} (record { answer = done (captionsLength p); shown = shownBy p; «captions_at» = captionsAt p })
+      (packetRead p)
   unfolding packetRead
   all-shown h =
       let v : verdict (packetChecks p) ≡ clear = done-clear (verdict (packetChecks p)) (captionsLength p) h in
@@ -62,14 +67,18 @@ module _ (p : List ℕ) where
   unfolding checkedRead
   checked-clear v = rw v
 
-  list-kept : verdict (packetChecks p) ≡ clear → flagsIn p .«svc_info» ≡ true → verdict (servicesChecks p (flagsIn p) (servicesAt p)) ≡ clear
-  list-kept v on = when-there (flagsIn p .«svc_info») (servicesChecks p (flagsIn p) (servicesAt p)) on (services-of-packet p v)
+  list-kept : verdict (packetChecks p) ≡ clear → flagsIn p .«svc_info» ≡ true
+      → verdict (servicesChecks p (flagsIn p) (servicesAt p)) ≡ clear
+  list-kept v on =
+      when-there (flagsIn p .«svc_info») (servicesChecks p (flagsIn p) (servicesAt p)) on (services-of-packet p v)
 
   -- the same of flags and a place that are the packet's
   pub kept-so : (f : Flags) (i : ℕ) → verdict (packetChecks p) ≡ clear → f ≡ flagsIn p → i ≡ servicesAt p
       → f .«svc_info» ≡ true → verdict (servicesChecks p f i) ≡ clear
   kept-so f i v fe ie = rw (fe, ie) (list-kept v)
 
-  pub shown-is : state (rateOf p) (timeCodeOf p (flagsIn p .«time_code») 7) (sequenceIn p) (servicesOf p (flagsIn p .«svc_info») (servicesAt p)) ≡ shownBy p
+  pub shown-is : state (rateOf p) (timeCodeOf p (flagsIn p .«time_code») 7) (sequenceIn p)
+      (servicesOf p (flagsIn p .«svc_info») (servicesAt p))
+      ≡ shownBy p
   unfolding shownBy
   shown-is = refl

@@ -1,4 +1,5 @@
--- The reader: what the definition gives where the buffer is too short, where the packet is refused, and where it is accepted.
+-- The reader: what the definition gives where the buffer is too short, where the packet is refused,
+-- and where it is accepted.
 -- Assumes nothing.
 use mathlib.Core.Bool.{Bool, true, false, cond}
 use mathlib.Core.List.{List, []}
@@ -30,8 +31,10 @@ abbrev result : Answer → CDPParser → CDPParserRead
 result a s = record { answer = a; parser = s }
 
 -- an accepted packet has all bytes of its captions, and as many are handed out as its answer says
-pub has-captions : (p : List ℕ) → verdict (packetChecks p) ≡ clear → flagsIn p .«cc_data» ≡ true → captionsAt p + captionsSize p (captionsAt p) ≤ length p
-has-captions p h on = captions-there p (captionsAt p) (when-there _ (captionsChecks p (captionsAt p)) on (captions-of-packet p h))
+pub has-captions : (p : List ℕ) → verdict (packetChecks p) ≡ clear → flagsIn p .«cc_data» ≡ true
+    → captionsAt p + captionsSize p (captionsAt p) ≤ length p
+has-captions p h on =
+    captions-there p (captionsAt p) (when-there _ (captionsChecks p (captionsAt p)) on (captions-of-packet p h))
 
 out-long : (p : List ℕ) (i : ℕ) (present : Bool) → (present ≡ true → i + captionsSize p i ≤ length p)
     → length (cond present (handedOut p i) []) ≡ sizeWhen present (captionsSize p i)
@@ -49,23 +52,33 @@ module _ (s : CDPParser) (p : List ℕ) (room : ℕ) where
 
   module _ (enough : captionRoom ≤ room) where
     -- the packet's own checks are left
-    as-packet : result (answer (verdict (packetChecks p)) (captionsLength p)) (ifClear (verdict (packetChecks p)) (shownBy p) (cleared s)) ≡ read s p room
+    as-packet : result (answer (verdict (packetChecks p)) (captionsLength p))
+        (ifClear (verdict (packetChecks p)) (shownBy p) (cleared s))
+        ≡ read s p room
     unfolding read
     as-packet = simp (le-leb _ _ enough)
 
-    pub packet-refused : eqb (packetRead p .answer .number) 0 ≡ false → result (packetRead p .answer) (cleared s) ≡ read s p room
+    pub packet-refused : eqb (packetRead p .answer .number) 0 ≡ false
+        → result (packetRead p .answer) (cleared s) ≡ read s p room
     unfolding packetRead
-    packet-refused wrong = refused-shows result (verdict (packetChecks p)) (captionsLength p) (captionsLength p) (shownBy p) (cleared s) wrong ∙ as-packet
+    packet-refused wrong =
+        refused-shows result (verdict (packetChecks p)) (captionsLength p) (captionsLength p)
+        (shownBy p) (cleared s) wrong
+        ∙ as-packet
 
-    shown-accepted : eqb (packetRead p .answer .number) 0 ≡ true → result (packetRead p .answer) (packetRead p .shown) ≡ read s p room
+    shown-accepted : eqb (packetRead p .answer .number) 0 ≡ true
+        → result (packetRead p .answer) (packetRead p .shown) ≡ read s p room
     unfolding packetRead
     shown-accepted right =
         ap (λ (v : Verdict). result (answer v (captionsLength p)) (ifClear v (shownBy p) freshReader)) (packet-clear p right)
-        ∙ ap (λ (v : Verdict). result (answer v (captionsLength p)) (ifClear v (shownBy p) (cleared s))) (sym (packet-clear p right))
+        ∙ ap (λ (v : Verdict). result (answer v (captionsLength p)) (ifClear v (shownBy p) (cleared s)))
+        (sym (packet-clear p right))
         ∙ as-packet
 
-    pub packet-accepted : eqb (packetRead p .answer .number) 0 ≡ true → result (done (captionsLength p)) (shownBy p) ≡ read s p room
-    packet-accepted right = ap (λ (r : PacketRead). result (r .answer) (r .shown)) (all-shown p right) ∙ shown-accepted right
+    pub packet-accepted : eqb (packetRead p .answer .number) 0 ≡ true
+        → result (done (captionsLength p)) (shownBy p) ≡ read s p room
+    packet-accepted right =
+        ap (λ (r : PacketRead). result (r .answer) (r .shown)) (all-shown p right) ∙ shown-accepted right
 
 -- the buffer
 module _ (p : List ℕ) (buffer : List ℕ) where
@@ -81,9 +94,12 @@ module _ (p : List ℕ) (buffer : List ℕ) where
     pub refused-buffer : eqb (packetRead p .answer .number) 0 ≡ false → buffer ≡ bufferAfter p buffer
     unfolding packetRead
     refused-buffer wrong =
-        refused-shows (λ a b. b) (verdict (packetChecks p)) (captionsLength p) (captionsLength p) (over 0 (captionsOf p) buffer) buffer wrong
+        refused-shows (λ a b. b) (verdict (packetChecks p)) (captionsLength p) (captionsLength p)
+        (over 0 (captionsOf p) buffer) buffer wrong
         ∙ buffer-as-packet
 
     module _ (right : eqb (packetRead p .answer .number) 0 ≡ true) where
       pub accepted-buffer : over 0 (captionsOf p) buffer ≡ bufferAfter p buffer
-      accepted-buffer = ap (λ (v : Verdict). ifClear v (over 0 (captionsOf p) buffer) buffer) (sym (packet-clear p right)) ∙ buffer-as-packet
+      accepted-buffer =
+          ap (λ (v : Verdict). ifClear v (over 0 (captionsOf p) buffer) buffer) (sym (packet-clear p right))
+          ∙ buffer-as-packet

@@ -1,5 +1,6 @@
--- What the reader's definition promises, in words of its own. The contract of `reader::CDPParser::parse` says that the
--- code's answer and state are `read` and that the buffer is left as `bufferAfter`, so that each of these is about the code.
+-- What the reader's definition promises, in words of its own. The contract of `reader::CDPParser::parse` says that
+-- the code's answer and state are `read` and that the buffer is left as `bufferAfter`, so that each of these is about
+-- the code.
 -- Assumes nothing.
 use mathlib.Core.Bool.{Bool, true, false, cond, true≢false}
 use mathlib.Core.List.{List}
@@ -38,14 +39,16 @@ module _ (enough : Bool) (v : Verdict) (room length : ℕ) (shown s : CDPParser)
   gives = record { answer = answer whole length; parser = cond enough (ifClear whole shown (cleared s)) s }
 
 eleven : (enough : Bool) (v : Verdict) (room length : ℕ) (shown s : CDPParser) → fine v ≡ true
-    → eqb (gives enough v room length shown s .answer .number) 11 ≡ true → gives enough v room length shown s .parser ≡ s
+    → eqb (gives enough v room length shown s .answer .number) 11 ≡ true
+    → gives enough v room length shown s .parser ≡ s
 eleven false v room length shown s f h = refl
 eleven true clear room length shown s f h = absurd (true≢false (sym h))
 eleven true (broken why) room length shown s f h = absurd (true≢false (sym h ∙ not-eleven why f))
 
 clears : (enough : Bool) (v : Verdict) (room length : ℕ) (shown s : CDPParser)
     → eqb (gives enough v room length shown s .answer .number) 0 ≡ false
-    → eqb (gives enough v room length shown s .answer .number) 11 ≡ false → gives enough v room length shown s .parser ≡ cleared s
+    → eqb (gives enough v room length shown s .answer .number) 11 ≡ false
+    → gives enough v room length shown s .parser ≡ cleared s
 clears false v room length shown s h k = absurd (true≢false k)
 clears true clear room length shown s h k = absurd (true≢false h)
 clears true (broken why) room length shown s h k = refl
@@ -70,19 +73,24 @@ module _ (s : CDPParser) (p buffer : List ℕ) where
   pub refusal-writes-nothing : eqb (given .answer .number) 0 ≡ false → bufferAfter p buffer ≡ buffer
   unfolding read bufferAfter
   refusal-writes-nothing h =
-      sym (refused-shows (λ a b. b) (verdict (readChecks p (length buffer))) (captionsLength p) (captionsLength p) (over 0 (captionsOf p) buffer) buffer h)
+      sym
+      (refused-shows (λ a b. b) (verdict (readChecks p (length buffer))) (captionsLength p) (captionsLength p)
+      (over 0 (captionsOf p) buffer) buffer h)
 
   -- answer 11 changes nothing
   pub eleven-changes-nothing : given .answer .number ≡ 11 → given .parser ≡ s
   unfolding read
   eleven-changes-nothing h =
-      eleven (leb captionRoom (length buffer)) (verdict (packetChecks p)) (length buffer) (captionsLength p) (shownBy p) s (packet-fine p) (eq-eqb _ _ h)
+      eleven (leb captionRoom (length buffer)) (verdict (packetChecks p)) (length buffer) (captionsLength p)
+      (shownBy p) s (packet-fine p) (eq-eqb _ _ h)
 
   -- any other refusal clears rate, time code and sequence
   module _ (refusal : eqb (given .answer .number) 0 ≡ false) (other : eqb (given .answer .number) 11 ≡ false) where
     pub refusal-clears : given .parser ≡ cleared s
     unfolding read
-    refusal-clears = clears (leb captionRoom (length buffer)) (verdict (packetChecks p)) (length buffer) (captionsLength p) (shownBy p) s refusal other
+    refusal-clears =
+        clears (leb captionRoom (length buffer)) (verdict (packetChecks p)) (length buffer) (captionsLength p)
+        (shownBy p) s refusal other
 
     pub refusal-clears-rate : given .parser .framerate ≡ noRate
     refusal-clears-rate = ap (λ (r : CDPParser). r .framerate) refusal-clears
@@ -98,13 +106,16 @@ module _ (s : CDPParser) (p buffer : List ℕ) where
   unfolding read
   long-refused a b =
       refused-unless (verdict (readChecks p (length buffer))) (captionsLength p)
-      (λ h. let s = size-of-packet p (kept-rest (roomCheck captionRoom (length buffer)) (packetChecks p) h) in omega (arith, a, b, s))
+      (λ h. let s = size-of-packet p (kept-rest (roomCheck captionRoom (length buffer)) (packetChecks p) h) in
+      omega (arith, a, b, s))
 
   -- no refusal, 11 or another, changes the service list or whether there is one
-  pub list-only-from-accepted : eqb (given .answer .number) 0 ≡ false → given .parser .«service_info» ≡ s .«service_info»
+  pub list-only-from-accepted : eqb (given .answer .number) 0 ≡ false
+      → given .parser .«service_info» ≡ s .«service_info»
   unfolding read
   list-only-from-accepted h =
-      keeps (leb captionRoom (length buffer)) (verdict (packetChecks p)) (length buffer) (captionsLength p) (shownBy p) s h
+      keeps (leb captionRoom (length buffer)) (verdict (packetChecks p)) (length buffer) (captionsLength p)
+      (shownBy p) s h
 
   -- a packet with another checksum than rule 9's is refused, so that no list comes from it
   module _ (wrong : byte p (footerAt p + 3) ≡ checksumOf p → ⊥) where
@@ -112,7 +123,9 @@ module _ (s : CDPParser) (p buffer : List ℕ) where
     unfolding read
     bad-checksum-refused =
         refused-unless (verdict (readChecks p (length buffer))) (captionsLength p)
-        (λ h. wrong (checksum-kept p (sequenceIn p) (closingAt p) (closing-of-packet p (kept-rest (roomCheck captionRoom (length buffer)) (packetChecks p) h))))
+        (λ h. wrong
+        (checksum-kept p (sequenceIn p) (closingAt p)
+        (closing-of-packet p (kept-rest (roomCheck captionRoom (length buffer)) (packetChecks p) h))))
 
     pub no-list-from-bad-checksum : given .parser .«service_info» ≡ s .«service_info»
     no-list-from-bad-checksum = list-only-from-accepted bad-checksum-refused
@@ -123,9 +136,13 @@ module _ (s : CDPParser) (p buffer : List ℕ) where
   same-with-any-buffer other a b = simp (le-leb _ _ a, le-leb _ _ b)
 
   -- nor does what is handed out: on acceptance the buffer's first bytes, as many as the answer says, are the captions
-  pub acceptance-hands-out : eqb (given .answer .number) 0 ≡ true → take (given .answer .first) (bufferAfter p buffer) ≡ captionsOf p
+  pub acceptance-hands-out : eqb (given .answer .number) 0 ≡ true
+      → take (given .answer .first) (bufferAfter p buffer) ≡ captionsOf p
   unfolding read bufferAfter over
   acceptance-hands-out h =
-      let all : verdict (readChecks p (length buffer)) ≡ clear = done-clear (verdict (readChecks p (length buffer))) (captionsLength p) h in
-      ap (λ (v : Verdict). take (answer v (captionsLength p) .first) (ifClear v (over 0 (captionsOf p) buffer) buffer)) all
-      ∙ take-at (captionsOf p) (drop (0 + length (captionsOf p)) buffer) (captionsLength p) (captions-long p (kept-rest (roomCheck captionRoom (length buffer)) (packetChecks p) all))
+      let all : verdict (readChecks p (length buffer)) ≡ clear =
+      done-clear (verdict (readChecks p (length buffer))) (captionsLength p) h in
+      ap
+      (λ (v : Verdict). take (answer v (captionsLength p) .first) (ifClear v (over 0 (captionsOf p) buffer) buffer)) all
+      ∙ take-at (captionsOf p) (drop (0 + length (captionsOf p)) buffer) (captionsLength p)
+      (captions-long p (kept-rest (roomCheck captionRoom (length buffer)) (packetChecks p) all))

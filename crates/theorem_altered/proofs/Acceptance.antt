@@ -31,7 +31,18 @@ use Rattle.read_packet.proofs.PacketReads.{closing-of-packet, in-order, service
 use Rattle.read_packet.specs.Packet.{captionsLength, captionsAt, closingAt, footerAt, packetChecks, servicesAt}
 use Rattle.reader.specs.Shown.{shownBy, state}
 use Rattle.reader.specs.Reader.{captionsOf}
-use Rattle.theorem_altered.proofs.Outside.{Same, before, behind, captions-same, captions-size, closing-same, header-same, section-fits, time-same, time-shown}
+use Rattle.theorem_altered.proofs.Outside.{
+  Same,
+  before,
+  behind,
+  captions-same,
+  captions-size,
+  closing-same,
+  header-same,
+  section-fits,
+  time-same,
+  time-shown,
+}
 use Rattle.theorem_altered.proofs.Spans.{bytes-same}
 use Rattle.basis.proofs.Places.{byte-of-part}
 use Rattle.read_services.proofs.ServicesReads.{count-at}
@@ -55,7 +66,8 @@ module _ (p q : List ℕ) (a : Altered p q) where
   front = before (captionsFrom p) (closingAt p) p q put
 
   -- the flags: those that say which sections there are
-  flag-kept : (of : Flags → Bool) → ((l : ServiceInfo) → of (mendedFlags (flagsIn p) l) ≡ of (flagsIn p)) → of (flagsIn q) ≡ of (flagsIn p)
+  flag-kept : (of : Flags → Bool) → ((l : ServiceInfo) → of (mendedFlags (flagsIn p) l) ≡ of (flagsIn p))
+      → of (flagsIn q) ≡ of (flagsIn p)
   flag-kept of h = kept (flagsIn p .«svc_info») refl
     where
       kept : (services : Bool) → flagsIn p .«svc_info» ≡ services → of (flagsIn q) ≡ of (flagsIn p)
@@ -81,9 +93,11 @@ module _ (p q : List ℕ) (a : Altered p q) where
   time-bytes : Same p q 7 (captionsAt p)
   time-bytes i low high = front i (omega (arith, low)) (omega (arith, high))
 
-  time-verdict : verdict (when (flagsIn q .«time_code») (timeCodeChecks q 7)) ≡ verdict (when (flagsIn p .«time_code») (timeCodeChecks p 7))
+  time-verdict : verdict (when (flagsIn q .«time_code») (timeCodeChecks q 7))
+      ≡ verdict (when (flagsIn p .«time_code») (timeCodeChecks p 7))
   time-verdict =
-      ap (λ (b : Bool). verdict (when b (timeCodeChecks q 7))) timed ∙ ap verdict (time-same p q size 7 (flagsIn p .«time_code») time-bytes)
+      ap (λ (b : Bool). verdict (when b (timeCodeChecks q 7))) timed
+      ∙ ap verdict (time-same p q size 7 (flagsIn p .«time_code») time-bytes)
 
   time-kept : timeCodeOf q (flagsIn q .«time_code») 7 ≡ timeCodeOf p (flagsIn p .«time_code») 7
   time-kept = ap (λ (b : Bool). timeCodeOf q b 7) timed ∙ time-shown p q size 7 (flagsIn p .«time_code») time-bytes
@@ -95,7 +109,8 @@ module _ (p q : List ℕ) (a : Altered p q) where
   captions-bytes : Same p q (captionsAt p) (captionsFrom p)
   captions-bytes i low high = front i (omega (arith, low)) high
 
-  captions-verdict : verdict (when (flagsIn q .«cc_data») (captionsChecks q (captionsAt q))) ≡ verdict (when (flagsIn p .«cc_data») (captionsChecks p (captionsAt p)))
+  captions-verdict : verdict (when (flagsIn q .«cc_data») (captionsChecks q (captionsAt q)))
+      ≡ verdict (when (flagsIn p .«cc_data») (captionsChecks p (captionsAt p)))
   captions-verdict =
       ap₂ (λ (b : Bool) (i : ℕ). verdict (when b (captionsChecks q i))) captioned captions-at
       ∙ ap verdict (captions-same p q size (captionsAt p) (flagsIn p .«cc_data») captions-bytes)
@@ -115,14 +130,16 @@ module _ (p q : List ℕ) (a : Altered p q) where
   abbrev at : ℕ
   at = servicesAt p
 
-  sized : (services : Bool) → flagsIn p .«svc_info» ≡ services → sizeWhen services (servicesSize q at) ≡ sizeWhen services (servicesSize p at)
+  sized : (services : Bool) → flagsIn p .«svc_info» ≡ services
+      → sizeWhen services (servicesSize q at) ≡ sizeWhen services (servicesSize p at)
   sized true on = ap sectionLength (sym (count-at q at) ∙ a .section on .asManyEntries ∙ count-at p at)
   sized false off = refl
 
   closing-at : closingAt q ≡ closingAt p
   closing-at =
       ap₂ _+_ services-at
-      (ap₂ (λ (b : Bool) (i : ℕ). sizeWhen b (servicesSize q i)) serviced services-at ∙ sized (flagsIn p .«svc_info») refl)
+      (ap₂ (λ (b : Bool) (i : ℕ). sizeWhen b (servicesSize q i)) serviced services-at
+      ∙ sized (flagsIn p .«svc_info») refl)
 
   -- the new section, where there is one: its own rules, and the flags that the header has of it
   module _ (on : flagsIn p .«svc_info» ≡ true) where
@@ -131,7 +148,8 @@ module _ (p q : List ℕ) (a : Altered p q) where
 
     own-clear : verdict (sectionChecks own) ≡ clear
     unfolding sectionRead
-    own-clear = done-clear (verdict (sectionChecks own)) 0 (ap (λ (x : Answer). eqb (x .number) 0) (a .section on .wellFormed))
+    own-clear =
+        done-clear (verdict (sectionChecks own)) 0 (ap (λ (x : Answer). eqb (x .number) 0) (a .section on .wellFormed))
 
     own-list : sectionRead own .list ≡ listOf own
     unfolding sectionRead
@@ -139,7 +157,8 @@ module _ (p q : List ℕ) (a : Altered p q) where
 
     own-flags : FlagsOf (flagsIn q) (listOf own)
     own-flags =
-        let mended : flagsIn q ≡ mendedFlags (flagsIn p) (listOf own) = a .section on .headerFlagsMended ∙ ap (mendedFlags (flagsIn p)) own-list in
+        let mended : flagsIn q ≡ mendedFlags (flagsIn p) (listOf own) =
+        a .section on .headerFlagsMended ∙ ap (mendedFlags (flagsIn p)) own-list in
         record {
           start = ap (λ (f : Flags). f .«svc_info_start») mended;
           change = ap (λ (f : Flags). f .«svc_info_change») mended;
@@ -151,7 +170,9 @@ module _ (p q : List ℕ) (a : Altered p q) where
     own-id =
         let two : Check = check (leb 2 (length own)) (LengthMismatch 2 (length own)) in
         let first : Check = check (eqb (byte own 0) servicesId) WrongMagic in
-        let id : byte own 0 ≡ servicesId = eqb-true _ _ (kept-first first (drop 2 (sectionChecks own)) (kept-rest two (drop 1 (sectionChecks own)) own-clear)) in
+        let id : byte own 0 ≡ servicesId =
+        eqb-true _ _
+        (kept-first first (drop 2 (sectionChecks own)) (kept-rest two (drop 1 (sectionChecks own)) own-clear)) in
         ap (byte q) (sym (add-zero at)) ∙ sym (byte-of-part q at (servicesSize q at) 0 (omega arith)) ∙ id
 
     own-fits : at + servicesSize q at ≤ length q
@@ -164,9 +185,11 @@ module _ (p q : List ℕ) (a : Altered p q) where
 
   services-verdict : verdict (when (flagsIn q .«svc_info») (servicesChecks q (flagsIn q) (servicesAt q))) ≡ clear
   services-verdict =
-      ap₂ (λ (b : Bool) (i : ℕ). verdict (when b (servicesChecks q (flagsIn q) i))) serviced services-at ∙ cleared (flagsIn p .«svc_info») refl
+      ap₂ (λ (b : Bool) (i : ℕ). verdict (when b (servicesChecks q (flagsIn q) i))) serviced services-at
+      ∙ cleared (flagsIn p .«svc_info») refl
     where
-      cleared : (services : Bool) → flagsIn p .«svc_info» ≡ services → verdict (when services (servicesChecks q (flagsIn q) at)) ≡ clear
+      cleared : (services : Bool) → flagsIn p .«svc_info» ≡ services
+          → verdict (when services (servicesChecks q (flagsIn q) at)) ≡ clear
       cleared true on = own-verdict on
       cleared false off = refl
 
@@ -176,10 +199,12 @@ module _ (p q : List ℕ) (a : Altered p q) where
   -- what stands behind the services, and the whole
   closing-verdict : closingChecks q (sequenceIn q) (closingAt q) ≡ closingChecks p (sequenceIn p) (closingAt p)
   closing-verdict =
-      let kept : byte p (footerAt p + 3) ≡ checksumOf p = checksum-kept p (sequenceIn p) (closingAt p) (closing-of-packet p (put .accepted)) in
+      let kept : byte p (footerAt p + 3) ≡ checksumOf p =
+      checksum-kept p (sequenceIn p) (closingAt p) (closing-of-packet p (put .accepted)) in
       let last : length p - 1 ≡ footerAt p + 3 = omega (arith, put .endsWithFooter) in
       ap₂ (λ (s i : ℕ). closingChecks q s i) sequenced closing-at
-      ∙ closing-same p q size (closingAt p) (sequenceIn p) (behind (captionsFrom p) (closingAt p) p q put) (put .endsWithFooter) (ap (byte p) last ∙ kept) (put .checksumMended)
+      ∙ closing-same p q size (closingAt p) (sequenceIn p) (behind (captionsFrom p) (closingAt p) p q put)
+      (put .endsWithFooter) (ap (byte p) last ∙ kept) (put .checksumMended)
 
   pub accepted-too : verdict (packetChecks q) ≡ clear
   accepted-too =

@@ -43,17 +43,41 @@ room′ = record { first = omega arith; second = omega arith }
 captions-put : Put (captionsFrom packetBefore) (servicesAt packetBefore) packetBefore withCaptions′
 unfolding packetChecks closingChecks sectionChecks listOf filled sameFlags fromId
 captions-put =
-    record { accepted = refl; endsWithFooter = refl; equallyMany = refl; beforeFlags = refl; beforeSpan = refl; behindSpan = refl; checksumMended = refl }
+    record {
+      accepted = refl;
+      endsWithFooter = refl;
+      equallyMany = refl;
+      beforeFlags = refl;
+      beforeSpan = refl;
+      behindSpan = refl;
+      checksumMended = refl;
+    }
 
 services-put : Put (servicesAt packetBefore) (closingAt packetBefore) packetBefore withSpanish
 unfolding packetChecks closingChecks sectionChecks listOf filled sameFlags fromId
 services-put =
-    record { accepted = refl; endsWithFooter = refl; equallyMany = refl; beforeFlags = refl; beforeSpan = refl; behindSpan = refl; checksumMended = refl }
+    record {
+      accepted = refl;
+      endsWithFooter = refl;
+      equallyMany = refl;
+      beforeFlags = refl;
+      beforeSpan = refl;
+      behindSpan = refl;
+      checksumMended = refl;
+    }
 
 both-put : Put (captionsFrom packetBefore) (closingAt packetBefore) packetBefore withBoth
 unfolding packetChecks closingChecks sectionChecks listOf filled sameFlags fromId
 both-put =
-    record { accepted = refl; endsWithFooter = refl; equallyMany = refl; beforeFlags = refl; beforeSpan = refl; behindSpan = refl; checksumMended = refl }
+    record {
+      accepted = refl;
+      endsWithFooter = refl;
+      equallyMany = refl;
+      beforeFlags = refl;
+      beforeSpan = refl;
+      behindSpan = refl;
+      checksumMended = refl;
+    }
 
 section-put : (q : List ℕ) → sectionIn packetBefore q ≡ spanish → flagsIn q ≡ flagsIn withSpanish → OtherSection packetBefore q
 unfolding sectionChecks sectionRead listOf filled
@@ -61,12 +85,26 @@ section-put q section flags =
     record { wellFormed = rw section; asManyEntries = rw section; headerFlagsMended = rw (section, flags) }
 
 pub examples : Examples
-unfolding packetChecks closingChecks sectionChecks sectionRead listOf filled sameFlags fromId digits read shownBy bufferAfter over
+unfolding packetChecks closingChecks sectionChecks sectionRead listOf filled sameFlags fromId digits read shownBy
+    bufferAfter over
 examples =
     record {
       otherCaptions = ((room, record { put = captions-put; sameFlags = refl }), (room′, (tt, tt)));
-      otherServices = ((room, record { put = services-put; hasServices = refl; section = section-put withSpanish refl refl }), (room′, (tt, tt)));
-      both = ((room, record { put = both-put; section = λ on. section-put withBoth refl refl; sameFlags = λ off. absurd (true≢false off) }), (room′, (tt, tt)));
+      otherServices = (
+        (room, record { put = services-put; hasServices = refl; section = section-put withSpanish refl refl }),
+        (room′, (tt, tt)),
+      );
+      both = (
+        (
+          room,
+          record {
+            put = both-put;
+            section = λ on. section-put withBoth refl refl;
+            sameFlags = λ off. absurd (true≢false off);
+          },
+        ),
+        (room′, (tt, tt)),
+      );
       captionsDiffer = λ h. apart 0x3C 0x38 refl (ap last h);
       servicesDiffer = λ h. apart 0x3C 0x1E refl (ap last h);
       bothDiffer = λ h. apart 0x3C 0x1A refl (ap last h);

@@ -1,4 +1,5 @@
--- Whatever is put into an accepted packet that ends with its footer, as the demand says it, makes a packet that is so altered.
+-- Whatever is put into an accepted packet that ends with its footer, as the demand says it,
+-- makes a packet that is so altered.
 -- Assumes nothing.
 use mathlib.Core.Bool.{Bool, true}
 use mathlib.Core.List.{List, [], _∷_}
@@ -28,7 +29,14 @@ use Rattle.read_services.proofs.ServicesReads.{count-at}
 use Rattle.theorem_altered.specs.Alteration.{OtherCaptions, OtherServices, Put, captionsFrom, mendedFlags, sectionIn}
 use Rattle.theorem_altered.specs.Mending.{captionsPut, mended, sectionPut}
 use Rattle.basis.specs.declared.answer.Answer.{Answer}
-use Rattle.theorem_altered.proofs.PutBytes.{mended-before, mended-last, mended-long, over-before, over-behind, over-inside}
+use Rattle.theorem_altered.proofs.PutBytes.{
+  mended-before,
+  mended-last,
+  mended-long,
+  over-before,
+  over-behind,
+  over-inside,
+}
 
 module _ (p : List ℕ) (accepted : verdict (packetChecks p) ≡ clear) (ends : length p ≡ footerAt p + 4) where
   -- a packet that is the same outside a span and outside byte 4, mended
@@ -49,9 +57,13 @@ module _ (p : List ℕ) (accepted : verdict (packetChecks p) ≡ clear) (ends : 
           accepted = accepted;
           endsWithFooter = ends;
           equallyMany = long;
-          beforeFlags = parts-same p (mended r) long 0 4 (λ (i : ℕ) least most. kept i (omega (arith, most, low, within)) (first i least most));
-          beforeSpan = parts-same p (mended r) long 5 (from - 5) (λ (i : ℕ) least most. kept i (omega (arith, least, most, within)) (middle i least (omega (arith, least, most))));
-          behindSpan = parts-same p (mended r) long to (length p - 1 - to) (λ (i : ℕ) least most. kept i (omega (arith, least, most)) (behind i least (omega (arith, least, most))));
+          beforeFlags = parts-same p (mended r) long 0 4
+              (λ (i : ℕ) least most. kept i (omega (arith, most, low, within)) (first i least most));
+          beforeSpan = parts-same p (mended r) long 5 (from - 5)
+              (λ (i : ℕ) least most.
+              kept i (omega (arith, least, most, within)) (middle i least (omega (arith, least, most))));
+          behindSpan = parts-same p (mended r) long to (length p - 1 - to)
+              (λ (i : ℕ) least most. kept i (omega (arith, least, most)) (behind i least (omega (arith, least, most))));
           checksumMended = mended-last r some;
         }
 
@@ -75,23 +87,30 @@ module _ (p : List ℕ) (accepted : verdict (packetChecks p) ≡ clear) (ends : 
     pub captions-put : OtherCaptions p (captionsPut captions p)
     captions-put =
         record {
-          put = put-mended (captionsFrom p) (servicesAt p) putIn long-in (omega arith) (omega (arith, equallyMany, captions-end))
+          put = put-mended (captionsFrom p) (servicesAt p) putIn long-in (omega arith)
+              (omega (arith, equallyMany, captions-end))
               (λ (i : ℕ) low high. before-captions i (omega (arith, high)))
               (λ (i : ℕ) low high. before-captions i high)
               (λ (i : ℕ) low high. over-behind (captionsFrom p) captions p fits i (omega (arith, low, equallyMany)));
-          sameFlags = mended-before putIn (omega (arith, long-in, captions-end)) 4 (omega (arith, long-in, captions-end)) ∙ before-captions 4 (omega arith);
+          sameFlags =
+              mended-before putIn (omega (arith, long-in, captions-end)) 4 (omega (arith, long-in, captions-end))
+              ∙ before-captions 4 (omega arith);
         }
 
     -- and they are the captions that are shown
     pub captions-there : part (captionsFrom p) (length captions) (captionsPut captions p) ≡ captions
     captions-there =
-        parts-same putIn (captionsPut captions p) (mended-long putIn (omega (arith, long-in, captions-end))) (captionsFrom p) (length captions)
-        (λ (i : ℕ) low high. mended-before putIn (omega (arith, long-in, captions-end)) i (omega (arith, high, long-in, equallyMany, captions-end)))
+        parts-same putIn (captionsPut captions p) (mended-long putIn (omega (arith, long-in, captions-end)))
+        (captionsFrom p) (length captions)
+        (λ (i : ℕ) low high. mended-before putIn (omega (arith, long-in, captions-end)) i
+        (omega (arith, high, long-in, equallyMany, captions-end)))
         ∙ over-inside (captionsFrom p) captions p fits
 
   -- The second half: any well-formed section with as many entries, and a byte 4 that has its three flags.
-  module _ (section : List ℕ) (flags : ℕ) (on : flagsIn p .«svc_info» ≡ true) (wellFormed : sectionRead section .answer ≡ done 0)
-      (asMany : countOf section ≡ countOf (sectionIn p p)) (mendedFlagsOf : flagsOf flags ≡ mendedFlags (flagsIn p) (sectionRead section .list)) where
+  module _ (section : List ℕ) (flags : ℕ) (on : flagsIn p .«svc_info» ≡ true)
+      (wellFormed : sectionRead section .answer ≡ done 0)
+      (asMany : countOf section ≡ countOf (sectionIn p p))
+      (mendedFlagsOf : flagsOf flags ≡ mendedFlags (flagsIn p) (sectionRead section .list)) where
     abbrev at : ℕ
     at = servicesAt p
 
@@ -101,9 +120,15 @@ module _ (p : List ℕ) (accepted : verdict (packetChecks p) ≡ clear) (ends : 
         let two : Check = check (leb 2 (length section)) (LengthMismatch 2 (length section)) in
         let id : Check = check (eqb (byte section 0) servicesId) WrongMagic in
         let bit : Check = check (allSet x80 (byte section 1)) InvalidFixedBits in
-        let size : Check = check (eqb (length section) (sectionLength (countOf section))) (LengthMismatch (sectionLength (countOf section)) (length section)) in
-        let all : verdict (sectionChecks section) ≡ clear = done-clear (verdict (sectionChecks section)) 0 (ap (λ (a : Answer). eqb (a .number) 0) wellFormed) in
-        eqb-true _ _ (kept-first size (drop 4 (sectionChecks section)) (kept-rest bit (drop 3 (sectionChecks section)) (kept-rest id (drop 2 (sectionChecks section)) (kept-rest two (drop 1 (sectionChecks section)) all))))
+        let size : Check =
+        check (eqb (length section) (sectionLength (countOf section)))
+        (LengthMismatch (sectionLength (countOf section)) (length section)) in
+        let all : verdict (sectionChecks section) ≡ clear =
+        done-clear (verdict (sectionChecks section)) 0 (ap (λ (a : Answer). eqb (a .number) 0) wellFormed) in
+        eqb-true _ _
+        (kept-first size (drop 4 (sectionChecks section))
+        (kept-rest bit (drop 3 (sectionChecks section))
+        (kept-rest id (drop 2 (sectionChecks section)) (kept-rest two (drop 1 (sectionChecks section)) all))))
 
     closing-is : closingAt p ≡ at + length section
     closing-is =
@@ -140,14 +165,19 @@ module _ (p : List ℕ) (accepted : verdict (packetChecks p) ≡ clear) (ends : 
 
     there : part at (length section) q ≡ section
     there =
-        parts-same inner q (mended-long outer (omega (arith, outer-long, end)) ∙ outer-long ∙ sym inner-long) at (length section)
-        (λ (i : ℕ) low high. q-byte i (omega (arith, high, closing-is, end)) ∙ over-behind 4 (flags ∷ []) inner room-4 i (omega (arith, low)))
+        parts-same inner q (mended-long outer (omega (arith, outer-long, end)) ∙ outer-long ∙ sym inner-long)
+        at (length section)
+        (λ (i : ℕ) low high. q-byte i (omega (arith, high, closing-is, end))
+        ∙ over-behind 4 (flags ∷ []) inner room-4 i (omega (arith, low)))
         ∙ over-inside at section p room
 
     pub section-there : sectionIn p q ≡ section
     section-there =
-        let count : byte q (at + 1) ≡ byte section 1 = sym (byte-of-part q at (length section) 1 (omega (arith, own-long))) ∙ ap (λ (d : List ℕ). byte d 1) there in
-        ap (λ (b : ℕ). part at (sectionLength (under x0F b)) q) count ∙ ap (λ (n : ℕ). part at n q) (sym own-long) ∙ there
+        let count : byte q (at + 1) ≡ byte section 1 =
+        sym (byte-of-part q at (length section) 1 (omega (arith, own-long))) ∙ ap (λ (d : List ℕ). byte d 1) there in
+        ap (λ (b : ℕ). part at (sectionLength (under x0F b)) q) count
+        ∙ ap (λ (n : ℕ). part at n q) (sym own-long)
+        ∙ there
 
     flags-there : byte q 4 ≡ flags
     flags-there =
@@ -159,9 +189,11 @@ module _ (p : List ℕ) (accepted : verdict (packetChecks p) ≡ clear) (ends : 
     section-put =
         record {
           put = put-mended at (closingAt p) outer outer-long (omega arith) (omega (arith, closing-is, end))
-              (λ (i : ℕ) low high. over-before 4 (flags ∷ []) inner room-4 i high ∙ over-before at section p room i (omega (arith, high)))
+              (λ (i : ℕ) low high.
+              over-before 4 (flags ∷ []) inner room-4 i high ∙ over-before at section p room i (omega (arith, high)))
               (λ (i : ℕ) low high. over-behind 4 (flags ∷ []) inner room-4 i low ∙ over-before at section p room i high)
-              (λ (i : ℕ) low high. over-behind 4 (flags ∷ []) inner room-4 i (omega (arith, low)) ∙ over-behind at section p room i (omega (arith, low, closing-is)));
+              (λ (i : ℕ) low high. over-behind 4 (flags ∷ []) inner room-4 i (omega (arith, low))
+              ∙ over-behind at section p room i (omega (arith, low, closing-is)));
           hasServices = on;
           section =
               record {

@@ -13,7 +13,15 @@ use Rattle.basis.specs.Check.{sizeWhen, when, sizeCheck}
 use Rattle.read_captions.specs.Captions.{captionsChecks, captionsSize}
 use Rattle.read_header.specs.Header.{flagsIn, headerChecks}
 use Rattle.read_time_code.specs.TimeCode.{timeCodeChecks, timeCodeOf}
-use Rattle.read_closing.specs.Closing.{checksumOf, closingChecks, footerChecks, footerFrom, futureChecks, futureChecksAt, futureLength}
+use Rattle.read_closing.specs.Closing.{
+  checksumOf,
+  closingChecks,
+  footerChecks,
+  footerFrom,
+  futureChecks,
+  futureChecksAt,
+  futureLength,
+}
 use Rattle.read_services.specs.Services.{servicesSize}
 use Rattle.read_packet.specs.Packet.{closingAt, servicesAt}
 use Rattle.theorem_altered.proofs.Spans.{bytes-same}
@@ -27,19 +35,37 @@ module _ (p q : List ℕ) (size : length q ≡ length p) where
   -- rules 2 and 3 look at bytes 0 to 3
   pub header-same : Same p q 0 4 → headerChecks q ≡ headerChecks p
   header-same same =
-      rw (same 0 (omega arith) (omega arith), same 1 (omega arith) (omega arith), same 2 (omega arith) (omega arith), same 3 (omega arith) (omega arith), size)
+      rw (
+        same 0 (omega arith) (omega arith),
+        same 1 (omega arith) (omega arith),
+        same 2 (omega arith) (omega arith),
+        same 3 (omega arith) (omega arith),
+        size,
+      )
 
   -- rule 5 looks at the five bytes from i on
   module _ (i : ℕ) where
     pub time-same : (present : Bool) → Same p q i (i + sizeWhen present 5)
         → when present (timeCodeChecks q i) ≡ when present (timeCodeChecks p i)
     time-same true same =
-        rw (same i (omega arith) (omega arith), same (i + 1) (omega arith) (omega arith), same (i + 2) (omega arith) (omega arith), same (i + 4) (omega arith) (omega arith), size)
+        rw (
+          same i (omega arith) (omega arith),
+          same (i + 1) (omega arith) (omega arith),
+          same (i + 2) (omega arith) (omega arith),
+          same (i + 4) (omega arith) (omega arith),
+          size,
+        )
     time-same false same = refl
 
-    pub time-shown : (present : Bool) → Same p q i (i + sizeWhen present 5) → timeCodeOf q present i ≡ timeCodeOf p present i
+    pub time-shown : (present : Bool) → Same p q i (i + sizeWhen present 5)
+        → timeCodeOf q present i ≡ timeCodeOf p present i
     time-shown true same =
-        rw (same (i + 1) (omega arith) (omega arith), same (i + 2) (omega arith) (omega arith), same (i + 3) (omega arith) (omega arith), same (i + 4) (omega arith) (omega arith))
+        rw (
+          same (i + 1) (omega arith) (omega arith),
+          same (i + 2) (omega arith) (omega arith),
+          same (i + 3) (omega arith) (omega arith),
+          same (i + 4) (omega arith) (omega arith),
+        )
     time-shown false same = refl
 
     -- rule 6 looks at the two bytes from i on, and at no caption byte
@@ -75,22 +101,30 @@ module _ (p q : List ℕ) (size : length q ≡ length p) where
   module _ (end : ℕ) where
     turn : (turns i : ℕ) (here : Bool) → Same p q i end → cond here i (footerFrom turns p (next i)) + 2 ≤ end
         → (Same p q (next i) end → footerFrom turns p (next i) + 2 ≤ end → Walked turns (next i))
-        → (cond here [] (futureChecksAt q i ++ futureChecks turns q (i + 2 + futureLength q i)) ≡ cond here [] (futureChecksAt p i ++ futureChecks turns p (next i)))
+        → (cond here [] (futureChecksAt q i ++ futureChecks turns q (i + 2 + futureLength q i))
+        ≡ cond here [] (futureChecksAt p i ++ futureChecks turns p (next i)))
         × (cond here i (footerFrom turns q (i + 2 + futureLength q i)) ≡ cond here i (footerFrom turns p (next i)))
     turn turns i true same h later = (refl, refl)
     turn turns i false same h later =
         let beyond : next i ≤ footerFrom turns p (next i) = further turns (next i) in
         let two : Same p q i (i + 2) = λ (k : ℕ) low high. same k low (omega (arith, h, beyond, high)) in
         let long : futureLength q i ≡ futureLength p i = two (i + 1) (omega arith) (omega arith) in
-        let rest : Walked turns (next i) = later (λ (k : ℕ) low high. same k (omega (arith, low)) high) h in
-        (ap₂ _++_ (section-same i two) (ap (λ (k : ℕ). futureChecks turns q (i + 2 + k)) long ∙ rest .0), ap (λ (k : ℕ). footerFrom turns q (i + 2 + k)) long ∙ rest .1)
+        let rest : Walked turns (next i) = later (λ (k : ℕ) low high. same k (omega (arith, low)) high) h in (
+          ap₂ _++_ (section-same i two) (ap (λ (k : ℕ). futureChecks turns q (i + 2 + k)) long ∙ rest .0),
+          ap (λ (k : ℕ). footerFrom turns q (i + 2 + k)) long ∙ rest .1,
+        )
 
     walked : (turns i : ℕ) → Same p q i end → footerFrom turns p i + 2 ≤ end → Walked turns i
     walked zero i same h = (refl, refl)
     walked (suc turns) i same h =
         let first : byte q i ≡ byte p i = same i (omega arith) (omega (arith, h, further (suc turns) i)) in
-        let rest = turn turns i (eqb (byte p i) 0x74) same h (λ s k. walked turns (next i) s k) in
-        (ap (λ (b : ℕ). cond (eqb b 0x74) [] (futureChecksAt q i ++ futureChecks turns q (i + 2 + futureLength q i))) first ∙ rest .0, ap (λ (b : ℕ). cond (eqb b 0x74) i (footerFrom turns q (i + 2 + futureLength q i))) first ∙ rest .1)
+        let rest = turn turns i (eqb (byte p i) 0x74) same h (λ s k. walked turns (next i) s k) in (
+          ap
+              (λ (b : ℕ). cond (eqb b 0x74) []
+              (futureChecksAt q i ++ futureChecks turns q (i + 2 + futureLength q i))) first
+              ∙ rest .0,
+          ap (λ (b : ℕ). cond (eqb b 0x74) i (footerFrom turns q (i + 2 + futureLength q i))) first ∙ rest .1,
+        )
 
   -- where the packet ends with its footer, and both have their checksum
   module _ (i sequence : ℕ) (same : Same p q i (length p - 1)) (ends : length p ≡ footerFrom (length p) p i + 4)
@@ -107,13 +141,19 @@ module _ (p q : List ℕ) (size : length q ≡ length p) where
     footer-same : footerChecks q sequence footer ≡ footerChecks p sequence footer
     footer-same =
         let from : i ≤ footer = further (length p) i in
-        rw (same (footer + 1) (omega (arith, from)) (omega (arith, ends)), same (footer + 2) (omega (arith, from)) (omega (arith, ends)), summed, size)
+        rw (
+          same (footer + 1) (omega (arith, from)) (omega (arith, ends)),
+          same (footer + 2) (omega (arith, from)) (omega (arith, ends)),
+          summed,
+          size,
+        )
 
     pub closing-same : closingChecks q sequence i ≡ closingChecks p sequence i
     unfolding closingChecks
     closing-same =
         let steps : Walked (length p) i = walked (length p - 1) (length p) i same (omega (arith, ends)) in
-        let future : futureChecks (length q) q i ≡ futureChecks (length p) p i = ap (λ (n : ℕ). futureChecks n q i) size ∙ steps .0 in
+        let future : futureChecks (length q) q i ≡ futureChecks (length p) p i =
+        ap (λ (n : ℕ). futureChecks n q i) size ∙ steps .0 in
         let place : footerFrom (length q) q i ≡ footer = ap (λ (n : ℕ). footerFrom n q i) size ∙ steps .1 in
         let room : sizeCheck q (i + 2) ≡ sizeCheck p (i + 2) = rw size in
         ap₂ _∷_ room (ap₂ _++_ future (ap (footerChecks q sequence) place ∙ footer-same))
@@ -131,5 +171,6 @@ module _ (from to : ℕ) (p q : List ℕ) (put : Put from to p q) where
 
   pub section-fits : flagsIn p .«svc_info» ≡ true → servicesAt p + servicesSize p (servicesAt p) + 4 ≤ length p
   section-fits on =
-      let place : closingAt p ≡ servicesAt p + servicesSize p (servicesAt p) = ap (λ (b : Bool). servicesAt p + sizeWhen b (servicesSize p (servicesAt p))) on in
+      let place : closingAt p ≡ servicesAt p + servicesSize p (servicesAt p) =
+      ap (λ (b : Bool). servicesAt p + sizeWhen b (servicesSize p (servicesAt p))) on in
       omega (arith, place, closing-fits)

@@ -38,12 +38,17 @@ module _ (at : ℕ) (xs p : List ℕ) (fits : at + length xs ≤ length p) where
   over-behind i h =
       let j : ℕ = i - (at + length xs) in
       let place : i ≡ length head + j = omega (arith, h, head-long) in
-      ap (byte (head ++ rest)) place ∙ getD-append-add head rest j 0 ∙ getD-drop (at + length xs) p j 0 ∙ ap (byte p) (omega (arith, h))
+      ap (byte (head ++ rest)) place
+      ∙ getD-append-add head rest j 0
+      ∙ getD-drop (at + length xs) p j 0
+      ∙ ap (byte p) (omega (arith, h))
 
   pub over-inside : part at (length xs) (over at xs p) ≡ xs
   unfolding over
   over-inside =
-      part-on (head ++ rest) at xs rest (ap (drop at) (append-assoc (take at p) xs rest) ∙ drop-at (take at p) (xs ++ rest) at start-long) (length xs) refl
+      part-on (head ++ rest) at xs rest
+      (ap (drop at) (append-assoc (take at p) xs rest) ∙ drop-at (take at p) (xs ++ rest) at start-long)
+      (length xs) refl
 
 -- mending changes the last byte alone
 module _ (r : List ℕ) (some : 1 ≤ length r) where
@@ -55,7 +60,8 @@ module _ (r : List ℕ) (some : 1 ≤ length r) where
 
   pub mended-before : (i : ℕ) → i < length r - 1 → byte (mended r) i ≡ byte r i
   mended-before i h =
-      List·getD-append (take (length r - 1) r) (checksumOf r ∷ []) 0 i (omega (arith, h, front-long)) ∙ getD-take (length r - 1) r i 0 h
+      List·getD-append (take (length r - 1) r) (checksumOf r ∷ []) 0 i (omega (arith, h, front-long))
+      ∙ getD-take (length r - 1) r i 0 h
 
   pub mended-last : byte (mended r) (length (mended r) - 1) ≡ checksumOf (mended r)
   mended-last =

@@ -17,7 +17,24 @@ use Rattle.reader.specs.Reader.{bufferAfter, captionsOf, cleared, read}
 use Rattle.theorem_altered.proofs.Acceptance.{accepted-too, captions-length, captions-new, shown-too}
 use Rattle.theorem_altered.specs.Alteration.{Altered, newList}
 use Rattle.theorem_altered.specs.Calls.{Shown, callShown, captionsShown, packetShown, runCalls}
-use Rattle.theorem_altered.specs.Twins.{Allowed, Excepted, Twin, Twins, after, altered, calls, exceptedAfter, firstOf, flushes, list, nothing, same, saveBoth, secondOf, withList}
+use Rattle.theorem_altered.specs.Twins.{
+  Allowed,
+  Excepted,
+  Twin,
+  Twins,
+  after,
+  altered,
+  calls,
+  exceptedAfter,
+  firstOf,
+  flushes,
+  list,
+  nothing,
+  same,
+  saveBoth,
+  secondOf,
+  withList,
+}
 use Rattle.reader.specs.declared.parser.CDPParser.{CDPParser}
 use Rattle.basis.specs.declared.answer.Answer.{Answer}
 use Rattle.values.specs.Layout.{captionRoom}
@@ -43,13 +60,20 @@ module _ (s : CDPParser) (p lent : List ℕ) (room : captionRoom ≤ length lent
 
   handed : verdict (packetChecks p) ≡ clear → take (captionsLength p) (bufferAfter p lent) ≡ captionsOf p
   handed h =
-      let accepted : read s p (length lent) .answer ≡ done (captionsLength p) = answered ∙ ap (λ (v : Verdict). answer v (captionsLength p)) h in
+      let accepted : read s p (length lent) .answer ≡ done (captionsLength p) =
+      answered ∙ ap (λ (v : Verdict). answer v (captionsLength p)) h in
       ap (λ (a : Answer). take (a .first) (bufferAfter p lent)) (sym accepted)
       ∙ acceptance-hands-out s p lent (ap (λ (a : Answer). eqb (a .number) 0) accepted)
 
   pub reading-is : packetShown s p lent ≡ given (verdict (packetChecks p)) (captionsLength p) (shownBy p) s (captionsOf p)
   reading-is =
-      rw (answered, left) (ap (λ (c : List ℕ). record { answer = answer (verdict (packetChecks p)) (captionsLength p); parser = ifClear (verdict (packetChecks p)) (shownBy p) (cleared s); captions = c })
+      rw (answered, left)
+      (ap
+      (λ (c : List ℕ). record {
+        answer = answer (verdict (packetChecks p)) (captionsLength p);
+        parser = ifClear (verdict (packetChecks p)) (shownBy p) (cleared s);
+        captions = c;
+      })
       (out (verdict (packetChecks p)) (captionsLength p) (bufferAfter p lent) (captionsOf p) handed))
 
 -- a refusal keeps the list that is excepted
@@ -62,21 +86,27 @@ refusing why s = record { answer = refused why; parser = s; captions = [] }
 
 stays : (v : Verdict) (length : ℕ) (shown s : CDPParser) (captions : List ℕ) (e : Excepted) (p lent lent′ : List ℕ)
     → given v length shown (withList e s) captions
-    ≡ saveBoth (same p lent lent′) (exceptedAfter (same p lent lent′) (answer v length) e) (given v length shown s captions)
+    ≡ saveBoth (same p lent lent′) (exceptedAfter (same p lent lent′) (answer v length) e)
+    (given v length shown s captions)
 stays clear length shown s captions e p lent lent′ = refl
 stays (broken why) length shown s captions e p lent lent′ =
-    ap (refusing why) (cleared-with e s) ∙ ap (λ (accepted : Bool). refusing why (withList (cond accepted nothing e) (cleared s))) (sym (refused-not-done why))
+    ap (refusing why) (cleared-with e s)
+    ∙ ap (λ (accepted : Bool). refusing why (withList (cond accepted nothing e) (cleared s)))
+    (sym (refused-not-done why))
 
 differs : (p q lent lent′ : List ℕ) (a : Altered p q) (e : Excepted) (s : CDPParser)
     → given (verdict (packetChecks q)) (captionsLength q) (shownBy q) (withList e s) (captionsOf q)
-    ≡ saveBoth (altered p q lent lent′) (list (newList p q)) (given (verdict (packetChecks p)) (captionsLength p) (shownBy p) s (captionsOf p))
-differs p q lent lent′ a e s = rw (accepted-too p q a, a .put .accepted, captions-length p q a, shown-too p q a, captions-new p q a)
+    ≡ saveBoth (altered p q lent lent′) (list (newList p q))
+    (given (verdict (packetChecks p)) (captionsLength p) (shownBy p) s (captionsOf p))
+differs p q lent lent′ a e s =
+    rw (accepted-too p q a, a .put .accepted, captions-length p q a, shown-too p q a, captions-new p q a)
 
 -- one call: what the second sequence shows
 abbrev saved : Twin → Excepted → Shown → Shown
 saved t e a = saveBoth t (exceptedAfter t (a .answer) e) a
 
-step : (t : Twin) → Allowed Altered t → (e : Excepted) (s : CDPParser) → callShown (withList e s) (secondOf t) ≡ saved t e (callShown s (firstOf t))
+step : (t : Twin) → Allowed Altered t → (e : Excepted) (s : CDPParser)
+    → callShown (withList e s) (secondOf t) ≡ saved t e (callShown s (firstOf t))
 step flushes _ e s = refl
 step (same p lent lent′) room e s =
     reading-is (withList e s) p lent′ (room .second)
@@ -95,11 +125,12 @@ all-calls (t ∷ ts) (h, hs) e s =
     let one = step t h e s in
     let first : Shown = callShown s (firstOf t) in
     ap₂ _∷_ one
-    (ap (λ (c : Shown). runCalls (c .parser) (calls secondOf ts)) one ∙ all-calls ts hs (exceptedAfter t (first .answer) e) (first .parser))
+    (ap (λ (c : Shown). runCalls (c .parser) (calls secondOf ts)) one
+    ∙ all-calls ts hs (exceptedAfter t (first .answer) e) (first .parser))
 
--- Both halves at once: other captions, other services, or both in one packet, in any of the accepted packets that end with
--- their footer. All answers and all that is shown stay the same, save the new captions and, until the next accepted packet
--- or flush, the new list.
+-- Both halves at once: other captions, other services, or both in one packet, in any of the accepted packets that end
+-- with their footer. All answers and all that is shown stay the same, save the new captions and, until the next
+-- accepted packet or flush, the new list.
 pub both-halves : (s : CDPParser) (ts : List Twin) → Twins Altered ts
     → runCalls s (calls secondOf ts) ≡ after saveBoth ts nothing (runCalls s (calls firstOf ts))
 both-halves s ts h = all-calls ts h nothing s

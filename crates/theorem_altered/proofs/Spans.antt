@@ -31,4 +31,6 @@ module _ (p q : List ℕ) where
       ext-getD 0 (part at count q) (part at count p) (part-long size at count)
       (λ (i : ℕ) (inside : i < length (part at count q)).
       let few : i < count = omega (arith, inside, length-take count (drop at q)) in
-      byte-of-part q at count i few ∙ h (at + i) (omega arith) (omega (arith, few)) ∙ sym (byte-of-part p at count i few))
+      byte-of-part q at count i few
+      ∙ h (at + i) (omega arith) (omega (arith, few))
+      ∙ sym (byte-of-part p at count i few))

@@ -1,5 +1,5 @@
--- The worked cases hold: each is computed, P1 to P7 for every state and every caption buffer with room, P6 for every value of
--- its last byte, P8 for all bytes beside the hours, P12 for every buffer that has room.
+-- The worked cases hold: each is computed, P1 to P7 for every state and every caption buffer with room, P6 for every
+-- value of its last byte, P8 for all bytes beside the hours, P12 for every buffer that has room.
 -- Assumes nothing.
 use mathlib.Core.Bool.{false}
 use mathlib.Core.List.{List, []}
@@ -30,7 +30,8 @@ stays clear buffer = over-nil 0 buffer
 stays (broken why) buffer = refl
 
 -- reading a packet with no captions comes to what rules 2 to 9 say of it
-reads : {p : List ℕ} {answered : Answer} {after : CDPParser → CDPParser} → flagsIn p .«cc_data» ≡ false → answer (verdict (packetChecks p)) 0 ≡ answered
+reads : {p : List ℕ} {answered : Answer} {after : CDPParser → CDPParser} → flagsIn p .«cc_data» ≡ false
+    → answer (verdict (packetChecks p)) 0 ≡ answered
     → ((s : CDPParser) → ifClear (verdict (packetChecks p)) (shownBy p) (cleared s) ≡ after s) → Reads p answered after
 unfolding read bufferAfter
 reads {p} none answers leaves =
@@ -40,7 +41,8 @@ reads {p} none answers leaves =
     }
 
 pub cases : Cases
-unfolding packetChecks shownBy closingChecks fromId timeRead digits entryRead sectionRead sectionChecks listOf filled packetWritten packetBytes
+unfolding packetChecks shownBy closingChecks fromId timeRead digits entryRead sectionRead sectionChecks listOf
+    filled packetWritten packetBytes
 cases =
     record {
       p1 = reads refl refl (λ s. refl);

@@ -33,28 +33,58 @@ use Rattle.write_checks.specs.Checks as Checks
 use Rattle.write_checks.specs.Code as PacketChecksCode
 use Rattle.write_bytes.specs.PacketWriting as Writing
 use Rattle.writer.specs.Writer.{setServiceInfo}
-use Rattle.theorem_packet.proofs.Proper.{Proper, captions-proper, closing-proper, entry-proper, entry-write-proper, fine, header-proper, none, overflow-proper, packet-proper, packet-write-proper, read-proper, room, section-proper, services-proper, set-proper, shorter-smaller, time-code-proper, time-proper, time-write-proper, value-proper, where-there, with-room}
+use Rattle.theorem_packet.proofs.Proper.{
+  Proper,
+  captions-proper,
+  closing-proper,
+  entry-proper,
+  entry-write-proper,
+  fine,
+  header-proper,
+  none,
+  overflow-proper,
+  packet-proper,
+  packet-write-proper,
+  read-proper,
+  room,
+  section-proper,
+  services-proper,
+  set-proper,
+  shorter-smaller,
+  time-code-proper,
+  time-proper,
+  time-write-proper,
+  value-proper,
+  where-there,
+  with-room,
+}
 use Rattle.theorem_packet.specs.FirstDemand.{FirstDemand, differ, inTable, never, refuses, smaller}
 use Rattle.basis.specs.declared.answer.Answer.{Answer}
 use Rattle.values.specs.Layout.{sectionLength}
 use Rattle.service_entry.specs.declared.entry.ServiceEntry.{ServiceEntry}
 use Rattle.service_list.specs.declared.list.ServiceInfo.{ServiceInfo}
 
--- an answer of checks that are refused as the table has it: of a call that gives a length with 0, and of one that gives 0
-in-table : (measured : Bool) (beside : ℕ → ℕ → Bool) (v : Verdict) (length : ℕ) → fine beside v ≡ true → (measured || eqb length 0) ≡ true
+-- an answer of checks that are refused as the table has it: of a call that gives a length with 0,
+-- and of one that gives 0
+in-table : (measured : Bool) (beside : ℕ → ℕ → Bool) (v : Verdict) (length : ℕ) → fine beside v ≡ true
+    → (measured || eqb length 0) ≡ true
     → inTable measured beside (answer v length) ≡ true
 in-table measured beside clear length f h = rw h
 in-table measured beside (broken why) length f h = rw (refused-not-done why) f
 
-with-length : (beside : ℕ → ℕ → Bool) {cs : List Check} → Proper beside cs → (length : ℕ) → inTable true beside (answer (verdict cs) length) ≡ true
+with-length : (beside : ℕ → ℕ → Bool) {cs : List Check} → Proper beside cs → (length : ℕ)
+    → inTable true beside (answer (verdict cs) length) ≡ true
 with-length beside {cs} proper length = in-table true beside (verdict cs) length (proper .is-fine) refl
 
-without : (beside : ℕ → ℕ → Bool) {cs : List Check} → Proper beside cs → inTable false beside (answer (verdict cs) 0) ≡ true
+without : (beside : ℕ → ℕ → Bool) {cs : List Check} → Proper beside cs
+    → inTable false beside (answer (verdict cs) 0) ≡ true
 without beside {cs} proper = in-table false beside (verdict cs) 0 (proper .is-fine) refl
 
 -- a writer that is refused leaves the buffer as it was
-left : (v : Verdict) (bytes buffer : List ℕ) → refuses (written v bytes buffer .answer) → written v bytes buffer .buffer ≡ buffer
-left v bytes buffer h = sym (refused-shows (λ (a : Answer) (b : List ℕ). b) v (length bytes) 0 (over 0 bytes buffer) buffer h)
+left : (v : Verdict) (bytes buffer : List ℕ) → refuses (written v bytes buffer .answer)
+    → written v bytes buffer .buffer ≡ buffer
+left v bytes buffer h =
+    sym (refused-shows (λ (a : Answer) (b : List ℕ). b) v (length bytes) 0 (over 0 bytes buffer) buffer h)
 
 -- the verdicts of the two writers that write no packet, room among them
 abbrev sectionVerdict : ServiceInfo → List ℕ → Verdict
@@ -64,7 +94,10 @@ abbrev entryVerdict : ServiceEntry → List ℕ → Verdict
 entryVerdict e buffer = verdict (entryCheck e ∷ roomCheck 6 (length buffer) ∷ [])
 
 pub first-demand : FirstDemand
-unfolding read packetRead HeaderCode.headerRead TimeSectionCode.timeCodeRead CcSectionCode.captionsTested SvcSectionCode.servicesTested FooterCode.closingRead sectionAnswer entriesRead Section.sectionRead Entry.entryRead Time.timeRead Time.timeWritten Writing.packetWritten sectionWritten entryWritten valueAnswer setServiceInfo PacketChecksCode.packetWriteTested putAnswer put
+unfolding read packetRead HeaderCode.headerRead TimeSectionCode.timeCodeRead CcSectionCode.captionsTested
+    SvcSectionCode.servicesTested FooterCode.closingRead sectionAnswer entriesRead Section.sectionRead Entry.entryRead
+    Time.timeRead Time.timeWritten Writing.packetWritten sectionWritten entryWritten valueAnswer setServiceInfo
+    PacketChecksCode.packetWriteTested putAnswer put
 first-demand =
     record {
       packetRead = λ s p lent. with-length differ (read-proper p lent) (captionsLength p);
@@ -80,9 +113,13 @@ first-demand =
       entriesRead = λ d. without differ (section-proper d);
       checkedRead = λ p. rw (checks-answer p) (with-length differ (packet-proper p) (captionsLength p));
       statelessRead = λ p. with-length differ (packet-proper p) (captionsLength p);
-      packetAnswered = λ w rate captions buffer. with-length never (with-room (packet-write-proper rate (w .«time_code») (w .«service_info») (length captions)) (Checks.packetLength (w .«time_code») (w .«service_info») (length captions)) buffer) (Checks.packetLength (w .«time_code») (w .«service_info») (length captions));
+      packetAnswered = λ w rate captions buffer. with-length never
+          (with-room (packet-write-proper rate (w .«time_code») (w .«service_info») (length captions))
+          (Checks.packetLength (w .«time_code») (w .«service_info») (length captions)) buffer)
+          (Checks.packetLength (w .«time_code») (w .«service_info») (length captions));
       packetTested = λ rate time services run. without never (packet-write-proper rate time services run);
-      sectionAnswered = λ l buffer. with-length never (with-room (value-proper l) (sectionLength (l .count)) buffer) (length (sectionBytes l));
+      sectionAnswered = λ l buffer.
+          with-length never (with-room (value-proper l) (sectionLength (l .count)) buffer) (length (sectionBytes l));
       entryAnswered = λ e buffer. with-length never (with-room (entry-write-proper e) 6 buffer) 6;
       timeAnswered = λ t. without never (time-write-proper t);
       listAdded = λ l e. without never (overflow-proper (ltb (l .count) places));
@@ -91,10 +128,14 @@ first-demand =
       listSet = λ w services. without never (set-proper services);
       bytesPut = λ at bytes buffer. without never (room (length bytes) (length buffer - at) none);
       readerWrites = Refusals.refusal-writes-nothing;
-      packetWrites = λ w rate captions buffer. PacketWrites.refusal-writes-nothing rate (w .sequence) (w .«time_code») (w .«service_info») captions buffer;
+      packetWrites = λ w rate captions buffer.
+          PacketWrites.refusal-writes-nothing rate (w .sequence) (w .«time_code») (w .«service_info») captions buffer;
       sectionWrites = λ l buffer. left (sectionVerdict l buffer) (sectionBytes l) buffer;
       entryWrites = λ e buffer. left (entryVerdict e buffer) (entryBytes e) buffer;
-      putWrites = λ at bytes buffer h. sym (refused-shows (λ (a : Answer) (b : List ℕ). b) (fitting at bytes buffer) 0 0 (over at bytes buffer) buffer h);
+      putWrites = λ at bytes buffer h.
+          sym
+          (refused-shows (λ (a : Answer) (b : List ℕ). b) (fitting at bytes buffer) 0 0
+          (over at bytes buffer) buffer h);
       readerClears = Refusals.refusal-clears;
       readerStays = Refusals.eleven-changes-nothing;
     }

@@ -18,7 +18,8 @@ use Rattle.write_bytes.specs.PacketWriting.{footerBytes}
 use Rattle.basis.proofs.Places.{byte-on}
 use Rattle.basis.specs.declared.answer.Answer.{Answer}
 
-module _ (p : List ℕ) (i sequence sum : ℕ) (h : drop i p ≡ footerBytes sequence ++ sum ∷ []) (size : length p ≡ i + 4) (right : sum ≡ checksumOf p) where
+module _ (p : List ℕ) (i sequence sum : ℕ) (h : drop i p ≡ footerBytes sequence ++ sum ∷ [])
+    (size : length p ≡ i + 4) (right : sum ≡ checksumOf p) where
   abbrev bytes : List ℕ
   bytes = footerBytes sequence ++ sum ∷ []
 

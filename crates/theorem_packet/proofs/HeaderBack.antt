@@ -33,7 +33,8 @@ found-id id [] h = absurd (false≢true h)
 found-id id (r ∷ rs) h = step id r (find id rs) (eqb id (r .id)) refl (found-id id rs) h
 
 -- so a rate that can be written is the one that its id names
-same-rate : (m : MaybeFramerate) (a : Framerate) → m .present ≡ true → m .framerate .id ≡ a .id → m .framerate .numer ≡ a .numer
+same-rate : (m : MaybeFramerate) (a : Framerate) → m .present ≡ true → m .framerate .id ≡ a .id
+    → m .framerate .numer ≡ a .numer
     → m .framerate .denom ≡ a .denom → m ≡ present a
 same-rate m a p i n d = rw (← p, ← i, ← n, ← d)
 
@@ -43,7 +44,8 @@ rate-known a h =
     let m : MaybeFramerate = find (a .id) rates in
     let there : m .present ≡ true = and-left _ _ h in
     let both = and-right (m .present) _ h in
-    same-rate m a there (found-id (a .id) rates there) (eqb-true _ _ (and-left _ _ both)) (eqb-true _ _ (and-right (eqb (m .framerate .numer) (a .numer)) _ both))
+    same-rate m a there (found-id (a .id) rates there) (eqb-true _ _ (and-left _ _ both))
+    (eqb-true _ _ (and-right (eqb (m .framerate .numer) (a .numer)) _ both))
 
 -- the upper three flags stand above five bits, the lower three in these
 record Upper (a b c : Bool) (n whole : ℕ) : Type 0 where
@@ -84,9 +86,12 @@ lower false false false = omega arith
 pub flags-back : (f : Flags) → flagsOf (flagByte f) ≡ f
 flags-back f =
     let n : ℕ = low (f .«svc_info_start») (f .«svc_info_change») (f .«svc_info_complete») in
-    let l : Lower (f .«svc_info_start») (f .«svc_info_change») (f .«svc_info_complete») = lower (f .«svc_info_start») (f .«svc_info_change») (f .«svc_info_complete») in
-    let same : flagByte f ≡ flag (f .«time_code») 0x80 + flag (f .«cc_data») 0x40 + flag (f .«svc_info») 0x20 + n = omega arith in
-    let u : Upper (f .«time_code») (f .«cc_data») (f .«svc_info») n (flagByte f) = rw same (upper (f .«time_code») (f .«cc_data») (f .«svc_info») n (l .most)) in
+    let l : Lower (f .«svc_info_start») (f .«svc_info_change») (f .«svc_info_complete») =
+    lower (f .«svc_info_start») (f .«svc_info_change») (f .«svc_info_complete») in
+    let same : flagByte f ≡ flag (f .«time_code») 0x80 + flag (f .«cc_data») 0x40 + flag (f .«svc_info») 0x20 + n =
+    omega arith in
+    let u : Upper (f .«time_code») (f .«cc_data») (f .«svc_info») n (flagByte f) =
+    rw same (upper (f .«time_code») (f .«cc_data») (f .«svc_info») n (l .most)) in
     let start : under x10 (flagByte f) ≡ under x10 n = omega (arith, u .low, l .most) in
     let change : under x08 (flagByte f) ≡ under x08 n = omega (arith, u .low, l .most) in
     let complete : under x04 (flagByte f) ≡ under x04 n = omega (arith, u .low, l .most) in

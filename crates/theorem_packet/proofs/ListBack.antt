@@ -16,10 +16,13 @@ use Rattle.service_entry.specs.declared.entry.ServiceEntry.{ServiceEntry}
 use Rattle.service_list.specs.declared.list.ServiceInfo.{ServiceInfo}
 
 -- places that are all there are a part of the list
-places-part : (services : List ServiceEntry) (k n : ℕ) → k + n ≤ length services → placesFrom services k n ≡ take n (drop k services)
+places-part : (services : List ServiceEntry) (k n : ℕ) → k + n ≤ length services
+    → placesFrom services k n ≡ take n (drop k services)
 places-part services k zero h = refl
 places-part services k (suc n) h =
-    let here : drop k services ≡ getD services k filler ∷ drop (k + 1) services = drop-cons services k filler (omega arith) ∙ ap (λ (j : ℕ). getD services k filler ∷ drop j services) (sym (add-one k)) in
+    let here : drop k services ≡ getD services k filler ∷ drop (k + 1) services =
+    drop-cons services k filler (omega arith)
+    ∙ ap (λ (j : ℕ). getD services k filler ∷ drop j services) (sym (add-one k)) in
     ap (λ (es : List ServiceEntry). getD services k filler ∷ es) (places-part services (k + 1) n (omega arith))
     ∙ ap (take (suc n)) (sym here)
 

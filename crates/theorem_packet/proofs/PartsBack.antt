@@ -1,4 +1,5 @@
--- A part that may be held, read back: what its flag, its checks and its size come to where it stands, or where nothing does.
+-- A part that may be held, read back: what its flag, its checks and its size come to where it stands,
+-- or where nothing does.
 -- Assumes nothing.
 use mathlib.Core.Bool.{Bool, true, false, cond, _&&_}
 use mathlib.Core.List.{List, [], _∷_, _++_}
@@ -30,9 +31,11 @@ pub record TimeHere (p : List ℕ) (i : ℕ) (present : Bool) (t : TimeCode) : T
   pub right : verdict (when present (timeCodeChecks p i)) ≡ clear
   pub shown : timeCodeOf p present i ≡ heldTime (record { present = present; «time_code» = t })
 
-pub time-here : (p : List ℕ) (i : ℕ) (present : Bool) (t : TimeCode) (rest : List ℕ) → drop i p ≡ cond present (timeCodeId ∷ timeBytes t) [] ++ rest
+pub time-here : (p : List ℕ) (i : ℕ) (present : Bool) (t : TimeCode) (rest : List ℕ)
+    → drop i p ≡ cond present (timeCodeId ∷ timeBytes t) [] ++ rest
     → verdict (when present (timeWriteChecks t)) ≡ clear → i + sizeWhen present 5 ≤ length p → TimeHere p i present t
-time-here p i true t rest h right fits = record { right = time-clear p i t rest h right fits; shown = ap timePresent (time-value p i t rest h right) }
+time-here p i true t rest h right fits =
+    record { right = time-clear p i t rest h right fits; shown = ap timePresent (time-value p i t rest h right) }
 time-here p i false t rest h right fits = record { right = refl; shown = refl }
 
 -- the list: what writing asks of it is what reading it back asks
@@ -44,11 +47,14 @@ ready l right =
 
 pub record ServicesHere (p : List ℕ) (i : ℕ) (f : Flags) (present : Bool) (l : ServiceInfo) : Type 0 where
   pub answered : verdict (when present (servicesChecks p f i)) ≡ named (present && namesFieldTwo (counted l))
-  pub shown : (present ≡ true → allOfThree (counted l) ≡ true) → servicesOf p present i ≡ cond present (listPresent (listBack l)) listAbsent
+  pub shown : (present ≡ true → allOfThree (counted l) ≡ true)
+      → servicesOf p present i ≡ cond present (listPresent (listBack l)) listAbsent
   pub size : sizeWhen present (servicesSize p i) ≡ sizeWhen present (sectionLength (l .count))
 
-pub services-here : (p : List ℕ) (i : ℕ) (f : Flags) (present : Bool) (l : ServiceInfo) (rest : List ℕ) → (present ≡ true → FlagsOf f l)
-    → drop i p ≡ cond present (sectionBytes l) [] ++ rest → verdict (when present (valueChecks l)) ≡ clear → i + sizeWhen present (sectionLength (l .count)) ≤ length p → ServicesHere p i f present l
+pub services-here : (p : List ℕ) (i : ℕ) (f : Flags) (present : Bool) (l : ServiceInfo) (rest : List ℕ)
+    → (present ≡ true → FlagsOf f l)
+    → drop i p ≡ cond present (sectionBytes l) [] ++ rest → verdict (when present (valueChecks l)) ≡ clear
+    → i + sizeWhen present (sectionLength (l .count)) ≤ length p → ServicesHere p i f present l
 services-here p i f true l rest flags h right fits =
     let r : Ready l = ready l right in
     record {

@@ -48,12 +48,14 @@ pub record Proper (beside : ℕ → ℕ → Bool) (cs : List Check) : Type 0 whe
   pub is-fine : fine beside (verdict cs) ≡ true
 
 -- The law: each check that is broken, those before it kept, has a refusal that stands in the table.
-first-broken : (beside : ℕ → ℕ → Bool) (kept : Bool) (why : Refusal) (v : Verdict) → (kept ≡ false → refusalInTable beside (refused why) ≡ true)
+first-broken : (beside : ℕ → ℕ → Bool) (kept : Bool) (why : Refusal) (v : Verdict)
+    → (kept ≡ false → refusalInTable beside (refused why) ≡ true)
     → (kept ≡ true → fine beside v ≡ true) → fine beside (cond kept v (broken why)) ≡ true
 first-broken beside true why v here behind = behind refl
 first-broken beside false why v here behind = here refl
 
-one-by-one : (beside : ℕ → ℕ → Bool) (v w : Verdict) → fine beside v ≡ true → fine beside w ≡ true → fine beside (andThen v w) ≡ true
+one-by-one : (beside : ℕ → ℕ → Bool) (v w : Verdict) → fine beside v ≡ true → fine beside w ≡ true
+    → fine beside (andThen v w) ≡ true
 one-by-one beside clear w a b = b
 one-by-one beside (broken why) w a b = a
 
@@ -61,17 +63,22 @@ module _ {beside : ℕ → ℕ → Bool} where
   pub none : Proper beside []
   none = record { is-fine = refl }
 
-  also : {c : Check} {cs : List Check} → (c .kept ≡ false → refusalInTable beside (refused (c .refusal)) ≡ true) → (c .kept ≡ true → Proper beside cs)
+  also : {c : Check} {cs : List Check} → (c .kept ≡ false → refusalInTable beside (refused (c .refusal)) ≡ true)
+      → (c .kept ≡ true → Proper beside cs)
       → Proper beside (c ∷ cs)
   also {c} {cs} here behind =
       record { is-fine = first-broken beside (c .kept) (c .refusal) (verdict cs) here (λ k. behind k .is-fine) }
 
   -- a check whose refusal has the same two values always
-  fixed : {kept : Bool} {why : Refusal} {cs : List Check} → refusalInTable beside (refused why) ≡ true → Proper beside cs → Proper beside (check kept why ∷ cs)
+  fixed : {kept : Bool} {why : Refusal} {cs : List Check} → refusalInTable beside (refused why) ≡ true
+      → Proper beside cs → Proper beside (check kept why ∷ cs)
   fixed here behind = also (λ _. here) (λ _. behind)
 
   both : (xs ys : List Check) → Proper beside xs → Proper beside ys → Proper beside (xs ++ ys)
-  both xs ys a b = record { is-fine = rw (verdict-append xs ys) (one-by-one beside (verdict xs) (verdict ys) (a .is-fine) (b .is-fine)) }
+  both xs ys a b =
+      record {
+        is-fine = rw (verdict-append xs ys) (one-by-one beside (verdict xs) (verdict ys) (a .is-fine) (b .is-fine));
+      }
 
   pub where-there : (present : Bool) {cs : List Check} → Proper beside cs → Proper beside (when present cs)
   where-there true a = a
@@ -82,7 +89,8 @@ module _ {beside : ℕ → ℕ → Bool} where
   room needed lent behind = also (λ k. lt-ltb lent needed (leb-false needed lent k)) (λ _. behind)
 
 -- the same behind all that a writer tests
-pub with-room : {beside : ℕ → ℕ → Bool} {cs : List Check} → Proper beside cs → (needed : ℕ) (buffer : List ℕ) → Proper beside (cs ++ roomCheck needed (length buffer) ∷ [])
+pub with-room : {beside : ℕ → ℕ → Bool} {cs : List Check} → Proper beside cs → (needed : ℕ) (buffer : List ℕ)
+    → Proper beside (cs ++ roomCheck needed (length buffer) ∷ [])
 with-room {cs = cs} a needed buffer = both cs _ a (room needed (length buffer) none)
 
 -- what stands beside 1 where less is met than at least so many bytes
@@ -104,19 +112,25 @@ module _ {beside : ℕ → ℕ → Bool} where
   time-proper hours minutes seconds frames = fixed refl (fixed refl (fixed refl none))
 
   -- E2: both refusals of the kind byte are fixed ones
-  kind : (digital kept kept′ : Bool) {cs : List Check} → Proper beside cs → Proper beside (cond digital (check kept InvalidServiceNumber) (check kept′ InvalidFixedBits) ∷ cs)
+  kind : (digital kept kept′ : Bool) {cs : List Check} → Proper beside cs
+      → Proper beside (cond digital (check kept InvalidServiceNumber) (check kept′ InvalidFixedBits) ∷ cs)
   kind true kept kept′ behind = fixed refl behind
   kind false kept kept′ behind = fixed refl behind
 
   pub entry-proper : (e : List ℕ) → Proper beside (entryChecks e)
-  entry-proper e = fixed refl (kind (allSet x80 (byte e 3)) (not (allClear x3F (byte e 3))) (allSet x3E (byte e 3)) (fixed refl (fixed refl none)))
+  entry-proper e =
+      fixed refl
+      (kind (allSet x80 (byte e 3)) (not (allClear x3F (byte e 3))) (allSet x3E (byte e 3))
+      (fixed refl (fixed refl none)))
 
   at-proper : (d : List ℕ) (at : ℕ) → Proper beside (checksAt d at)
-  at-proper d at = fixed refl (fixed refl (both (entryChecks (sixBehind d at)) _ (entry-proper (sixBehind d at)) (fixed refl none)))
+  at-proper d at =
+      fixed refl (fixed refl (both (entryChecks (sixBehind d at)) _ (entry-proper (sixBehind d at)) (fixed refl none)))
 
   entries-proper : (d : List ℕ) (at n : ℕ) → Proper beside (entryListChecks d at n)
   entries-proper d at zero = none
-  entries-proper d at (suc n) = both (checksAt d at) (entryListChecks d (at + 7) n) (at-proper d at) (entries-proper d (at + 7) n)
+  entries-proper d at (suc n) =
+      both (checksAt d at) (entryListChecks d (at + 7) n) (at-proper d at) (entries-proper d (at + 7) n)
 
   pub time-write-proper : (t : TimeCode) → Proper beside (timeWriteChecks t)
   time-write-proper t = fixed refl (fixed refl (fixed refl (fixed refl none)))
@@ -137,26 +151,33 @@ module _ {beside : ℕ → ℕ → Bool} where
   pub set-proper : (services : MaybeServiceInfo) → Proper beside (setChecks services)
   set-proper services = where-there (services .present) (fixed refl none)
 
-  pub packet-write-proper : (rate : Framerate) (time : MaybeTimeCode) (services : MaybeServiceInfo) (run : ℕ) → Proper beside (Checks.packetWriteChecks rate time services run)
+  pub packet-write-proper : (rate : Framerate) (time : MaybeTimeCode) (services : MaybeServiceInfo) (run : ℕ)
+      → Proper beside (Checks.packetWriteChecks rate time services run)
   packet-write-proper rate time services run =
       fixed refl
       (fixed refl
       (both (Checks.timeCodeWriteChecks time) (Checks.servicesWriteChecks services)
-      (where-there (time .present) (time-write-proper (time .«time_code»))) (where-there (services .present) (value-proper (services .«service_info»)))))
+      (where-there (time .present) (time-write-proper (time .«time_code»)))
+      (where-there (services .present) (value-proper (services .«service_info»)))))
 
 -- rules that answer 1 where bytes are missing: the parts of a packet behind its header
 module _ {beside : ℕ → ℕ → Bool} (shorter : Shorter beside) where
-  size : (p : List ℕ) (least : ℕ) {cs : List Check} → (least ≤ length p → Proper beside cs) → Proper beside (sizeCheck p least ∷ cs)
-  size p least behind = also (λ k. shorter least (length p) (leb-false least (length p) k)) (λ k. behind (leb-true least (length p) k))
+  size : (p : List ℕ) (least : ℕ) {cs : List Check} → (least ≤ length p → Proper beside cs)
+      → Proper beside (sizeCheck p least ∷ cs)
+  size p least behind =
+      also (λ k. shorter least (length p) (leb-false least (length p) k)) (λ k. behind (leb-true least (length p) k))
 
   pub time-code-proper : (p : List ℕ) (i : ℕ) → Proper beside (timeCodeChecks p i)
-  time-code-proper p i = size p (i + 5) (λ _. fixed refl (time-proper (byte p (i + 1)) (byte p (i + 2)) (byte p (i + 3)) (byte p (i + 4))))
+  time-code-proper p i =
+      size p (i + 5) (λ _. fixed refl (time-proper (byte p (i + 1)) (byte p (i + 2)) (byte p (i + 3)) (byte p (i + 4))))
 
   pub captions-proper : (p : List ℕ) (i : ℕ) → Proper beside (captionsChecks p i)
   captions-proper p i = size p (i + 2) (λ _. fixed refl (fixed refl (size p (i + captionsSize p i) (λ _. none))))
 
   -- a section, if its size is refused as the table has it
-  section : (d : List ℕ) → ((sectionLength (countOf d) ≡ length d → ⊥) → beside (sectionLength (countOf d)) (length d) ≡ true) → Proper beside (sectionChecks d)
+  section : (d : List ℕ)
+      → ((sectionLength (countOf d) ≡ length d → ⊥) → beside (sectionLength (countOf d)) (length d) ≡ true)
+      → Proper beside (sectionChecks d)
   unfolding sectionChecks
   section d other =
       size d 2
@@ -165,9 +186,11 @@ module _ {beside : ℕ → ℕ → Bool} (shorter : Shorter beside) where
       (also (λ k. other (λ e. eqb-false _ _ k (sym e))) (λ _. entries-proper d 2 (countOf d)))))
 
   -- in a packet its bytes are as many as it says, so that S4 refuses none
-  as-long : (p : List ℕ) (i : ℕ) → i + servicesSize p i ≤ length p → sectionLength (countOf (servicesPart p i)) ≡ length (servicesPart p i)
+  as-long : (p : List ℕ) (i : ℕ) → i + servicesSize p i ≤ length p
+      → sectionLength (countOf (servicesPart p i)) ≡ length (servicesPart p i)
   as-long p i fits =
-      let long : length (servicesPart p i) ≡ servicesSize p i = length-take-le (servicesSize p i) (drop i p) (omega (arith, length-drop i p)) in
+      let long : length (servicesPart p i) ≡ servicesSize p i =
+      length-take-le (servicesSize p i) (drop i p) (omega (arith, length-drop i p)) in
       ap sectionLength (count-at p i) ∙ sym long
 
   pub services-proper : (p : List ℕ) (f : Flags) (i : ℕ) → Proper beside (servicesChecks p f i)
@@ -175,7 +198,8 @@ module _ {beside : ℕ → ℕ → Bool} (shorter : Shorter beside) where
       size p (i + 2)
       (λ _. fixed refl
       (size p (i + servicesSize p i)
-      (λ fits. both (sectionChecks (servicesPart p i)) _ (section (servicesPart p i) (λ other. absurd (other (as-long p i fits)))) (fixed refl none))))
+      (λ fits. both (sectionChecks (servicesPart p i)) _
+      (section (servicesPart p i) (λ other. absurd (other (as-long p i fits)))) (fixed refl none))))
 
   unless-found : (found : Bool) {cs : List Check} → Proper beside cs → Proper beside (cond found [] cs)
   unless-found true a = none
@@ -185,7 +209,9 @@ module _ {beside : ℕ → ℕ → Bool} (shorter : Shorter beside) where
   future-proper zero p i = none
   future-proper (suc turns) p i =
       unless-found (eqb (byte p i) footerId)
-      (fixed refl (size p (i + 1 + futureLength p i) (λ _. size p (i + 2 + futureLength p i + 2) (λ _. future-proper turns p (i + 2 + futureLength p i)))))
+      (fixed refl
+      (size p (i + 1 + futureLength p i)
+      (λ _. size p (i + 2 + futureLength p i + 2) (λ _. future-proper turns p (i + 2 + futureLength p i)))))
 
   pub closing-proper : (p : List ℕ) (sequence i : ℕ) → Proper beside (closingChecks p sequence i)
   unfolding closingChecks
@@ -216,7 +242,8 @@ packet-proper p =
     both (headerChecks p) (time ++ (captions ++ (services ++ closing))) (header-proper p)
     (both time (captions ++ (services ++ closing)) (where-there (f .«time_code») (time-code-proper shorter-differs p 7))
     (both captions (services ++ closing) (where-there (f .«cc_data») (captions-proper shorter-differs p (captionsAt p)))
-    (both services closing (where-there (f .«svc_info») (services-proper shorter-differs p f (servicesAt p))) (closing-proper shorter-differs p (sequenceIn p) (closingAt p)))))
+    (both services closing (where-there (f .«svc_info») (services-proper shorter-differs p f (servicesAt p)))
+    (closing-proper shorter-differs p (sequenceIn p) (closingAt p)))))
 
 pub read-proper : (p : List ℕ) (lent : ℕ) → Proper differ (readChecks p lent)
 read-proper p lent = room captionRoom lent (packet-proper p)

@@ -29,7 +29,8 @@ use Rattle.basis.specs.declared.answer.Answer.{Answer}
 use Rattle.read_packet.specs.declared.checked.Checked.{Checked}
 
 -- beside a refusal stands the other value
-beside : {A : Type 0} (v : Verdict) (length : ℕ) (value other : A) → eqb (answer v length .number) 0 ≡ false → ifClear v value other ≡ other
+beside : {A : Type 0} (v : Verdict) (length : ℕ) (value other : A) → eqb (answer v length .number) 0 ≡ false
+    → ifClear v value other ≡ other
 beside {A} v length value other h = sym (refused-shows (λ (a : Answer) (x : A). x) v length length value other h)
 
 unless : {A : Type 0} (v : Verdict) (value other : A) → (v ≡ clear → ⊥) → ifClear v value other ≡ other
@@ -43,18 +44,27 @@ no-time-code clear length shown done-so h = absurd (true≢false (sym done-so �
 no-time-code (broken why) length shown done-so h = refl
 
 pub nothing-from-refused : NothingFromRefused
-unfolding Entry.entryRead SvcEntriesCode.entriesRead Section.sectionRead ReaderCode.packetRead Time.timeRead TimeSectionCode.timeCodeRead CheckedCode.checkedRead
+unfolding Entry.entryRead SvcEntriesCode.entriesRead Section.sectionRead ReaderCode.packetRead Time.timeRead
+    TimeSectionCode.timeCodeRead CheckedCode.checkedRead
 nothing-from-refused =
     record {
       entryRead = λ bytes h. beside (verdict (Entry.entryChecks bytes)) 0 (Entry.entryOf bytes) filler h;
-      entriesRead = λ d h. beside (verdict (Entries.sectionChecks d)) 0 (Entries.filled (Entries.entriesOf d 2 (Entries.countOf d))) Entries.fillers h;
+      entriesRead = λ d h.
+          beside (verdict (Entries.sectionChecks d)) 0
+          (Entries.filled (Entries.entriesOf d 2 (Entries.countOf d))) Entries.fillers h;
       sectionRead = λ d h. beside (verdict (Entries.sectionChecks d)) 0 (Section.listOf d) empty h;
       statelessRead = λ p h. beside (verdict (packetChecks p)) (captionsLength p) (shownBy p) freshReader h;
       noList = refl;
       packetRead = list-only-from-accepted;
-      timeRead = λ hours minutes seconds frames h. beside (verdict (Time.timeChecks hours minutes seconds frames)) 0 (Time.timeOf hours minutes seconds frames) Time.noTime h;
-      timeCodeRead = λ p present i h. beside (verdict (when present (TimeCode.timeCodeChecks p i))) 0 (TimeCode.timeCodeOf p present i) Time.timeAbsent h;
-      checkedRead = λ p h. no-time-code (verdict (packetChecks p)) (captionsLength p) (CheckedCode.checkedShown p) refl h;
-      badChecksum = λ p wrong. unless (verdict (packetChecks p)) (shownBy p) freshReader (λ v. wrong (checksum-kept p (sequenceIn p) (closingAt p) (closing-of-packet p v)));
+      timeRead = λ hours minutes seconds frames h.
+          beside (verdict (Time.timeChecks hours minutes seconds frames)) 0
+          (Time.timeOf hours minutes seconds frames) Time.noTime h;
+      timeCodeRead = λ p present i h.
+          beside (verdict (when present (TimeCode.timeCodeChecks p i))) 0
+          (TimeCode.timeCodeOf p present i) Time.timeAbsent h;
+      checkedRead =
+          λ p h. no-time-code (verdict (packetChecks p)) (captionsLength p) (CheckedCode.checkedShown p) refl h;
+      badChecksum = λ p wrong. unless (verdict (packetChecks p)) (shownBy p) freshReader
+          (λ v. wrong (checksum-kept p (sequenceIn p) (closingAt p) (closing-of-packet p v)));
       badChecksumKept = no-list-from-bad-checksum;
     }

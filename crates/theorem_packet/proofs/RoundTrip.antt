@@ -33,13 +33,30 @@ use Rattle.write_bytes.proofs.Parts.{packet-length, services-length, time-lengt
 use Rattle.writer.specs.Writer.{heldTime, heldWritten}
 use Rattle.write_checks.specs.Checks as Checks
 use Rattle.write_checks.specs.Checks.{packetLength}
-use Rattle.write_bytes.specs.PacketWriting.{captionsBytes, heldFlags, footerBytes, headerBytes, packetBytes, summedBytes, servicesBytes, timeCodeBytes}
+use Rattle.write_bytes.specs.PacketWriting.{
+  captionsBytes,
+  heldFlags,
+  footerBytes,
+  headerBytes,
+  packetBytes,
+  summedBytes,
+  servicesBytes,
+  timeCodeBytes,
+}
 use Rattle.theorem_packet.proofs.FooterBack.{closing-clear}
 use Rattle.theorem_packet.proofs.HeaderBack.{flags-back, header-clear, rate-back, sequence-back}
 use Rattle.theorem_packet.proofs.PartsBack.{ServicesHere, TimeHere, services-here, time-here}
 use Rattle.basis.proofs.Places.{further-on}
 use Rattle.theorem_packet.proofs.SectionsBack.{captions-clear, captions-value, size-is}
-use Rattle.theorem_packet.specs.RoundTrip.{Languages, ReadBack, captionsBack, fieldTwo, servicesBack, shownBack, writtenPacket}
+use Rattle.theorem_packet.specs.RoundTrip.{
+  Languages,
+  ReadBack,
+  captionsBack,
+  fieldTwo,
+  servicesBack,
+  shownBack,
+  writtenPacket,
+}
 use Rattle.reader.specs.declared.parser.CDPParser.{CDPParser}
 use Rattle.service_list.specs.declared.list.ServiceInfo.{ServiceInfo}
 use Rattle.values.specs.declared.flags.Flags.{Flags}
@@ -74,7 +91,9 @@ module _ (w : CDPWriter) (rate : Framerate) (captions : List ℕ)
 
   -- the parts, and what stands from each of them on
   abbrev header : List ℕ
-  header = headerBytes (packetLength (w .«time_code») (w .«service_info») run) rate (heldFlags (w .«time_code») (w .«service_info»)) (w .sequence)
+  header =
+      headerBytes (packetLength (w .«time_code») (w .«service_info») run) rate
+      (heldFlags (w .«time_code») (w .«service_info»)) (w .sequence)
 
   abbrev fourth : List ℕ
   fourth = footerBytes (w .sequence) ++ sum ∷ []
@@ -99,7 +118,9 @@ module _ (w : CDPWriter) (rate : Framerate) (captions : List ℕ)
 
   laid : p ≡ header ++ first
   unfolding packetBytes
-  laid = six header (timeCodeBytes (w .«time_code»)) (captionsBytes captions) (servicesBytes (w .«service_info»)) (footerBytes (w .sequence)) (sum ∷ [])
+  laid =
+      six header (timeCodeBytes (w .«time_code»)) (captionsBytes captions) (servicesBytes (w .«service_info»))
+      (footerBytes (w .sequence)) (sum ∷ [])
 
   long : length p ≡ footerFrom + 4
   long = packet-length rate (w .sequence) (w .«time_code») (w .«service_info») captions
@@ -108,33 +129,48 @@ module _ (w : CDPWriter) (rate : Framerate) (captions : List ℕ)
   at-time = ap (drop 7) laid
 
   at-captions : drop captionsFrom p ≡ second
-  at-captions = further-on p 7 (timeCodeBytes (w .«time_code»)) second at-time (Checks.timeCodeLength (w .«time_code»)) (sym (time-length (w .«time_code»)))
+  at-captions =
+      further-on p 7 (timeCodeBytes (w .«time_code»)) second at-time (Checks.timeCodeLength (w .«time_code»))
+      (sym (time-length (w .«time_code»)))
 
   at-services : drop servicesFrom p ≡ third
   at-services = further-on p captionsFrom (captionsBytes captions) third at-captions (2 + run) (omega arith)
 
   at-footer : drop footerFrom p ≡ fourth
-  at-footer = further-on p servicesFrom (servicesBytes (w .«service_info»)) fourth at-services (Checks.servicesLength (w .«service_info»)) (sym (services-length (w .«service_info»)))
+  at-footer =
+      further-on p servicesFrom (servicesBytes (w .«service_info»)) fourth at-services
+      (Checks.servicesLength (w .«service_info»)) (sym (services-length (w .«service_info»)))
 
   -- the header
   flags : flagsIn p ≡ heldFlags (w .«time_code») (w .«service_info»)
   flags = ap flagsIn laid ∙ flags-back (heldFlags (w .«time_code») (w .«service_info»))
 
   sequence : sequenceIn p ≡ w .sequence
-  sequence = ap sequenceIn laid ∙ sequence-back (packetLength (w .«time_code») (w .«service_info») run) rate (heldFlags (w .«time_code») (w .«service_info»)) (w .sequence) first
+  sequence =
+      ap sequenceIn laid
+      ∙ sequence-back (packetLength (w .«time_code») (w .«service_info») run) rate
+      (heldFlags (w .«time_code») (w .«service_info»)) (w .sequence) first
 
   rated : rateOf p ≡ present rate
-  rated = ap rateOf laid ∙ rate-back (packetLength (w .«time_code») (w .«service_info») run) rate (heldFlags (w .«time_code») (w .«service_info»)) (w .sequence) first (holds .rated)
+  rated =
+      ap rateOf laid
+      ∙ rate-back (packetLength (w .«time_code») (w .«service_info») run) rate
+      (heldFlags (w .«time_code») (w .«service_info»)) (w .sequence) first (holds .rated)
 
   header-right : verdict (headerChecks p) ≡ clear
   header-right =
-      let size : length (header ++ first) ≡ packetLength (w .«time_code») (w .«service_info») run = ap length (sym laid) ∙ packet-length rate (w .sequence) (w .«time_code») (w .«service_info») captions in
+      let size : length (header ++ first) ≡ packetLength (w .«time_code») (w .«service_info») run =
+      ap length (sym laid) ∙ packet-length rate (w .sequence) (w .«time_code») (w .«service_info») captions in
       ap (λ (q : List ℕ). verdict (headerChecks q)) laid
-      ∙ header-clear (packetLength (w .«time_code») (w .«service_info») run) rate (heldFlags (w .«time_code») (w .«service_info»)) (w .sequence) first (holds .rated) (omega (arith, size)) (sym size)
+      ∙ header-clear (packetLength (w .«time_code») (w .«service_info») run) rate
+      (heldFlags (w .«time_code») (w .«service_info»)) (w .sequence) first (holds .rated) (omega (arith, size))
+      (sym size)
 
   -- the time code
   time : TimeHere p 7 (w .«time_code» .present) (w .«time_code» .«time_code»)
-  time = time-here p 7 (w .«time_code» .present) (w .«time_code» .«time_code») second at-time (holds .timed) (omega (arith, long))
+  time =
+      time-here p 7 (w .«time_code» .present) (w .«time_code» .«time_code») second at-time (holds .timed)
+      (omega (arith, long))
 
   -- the captions
   captions-at : captionsAt p ≡ captionsFrom
@@ -159,15 +195,22 @@ module _ (w : CDPWriter) (rate : Framerate) (captions : List ℕ)
   services-at : servicesAt p ≡ servicesFrom
   services-at = ap₂ (λ (i n : ℕ). i + n) captions-at captions-long
 
-  services : ServicesHere p servicesFrom (heldFlags (w .«time_code») (w .«service_info»)) (w .«service_info» .present) list
+  services :
+      ServicesHere p servicesFrom (heldFlags (w .«time_code») (w .«service_info»)) (w .«service_info» .present) list
   services =
-      services-here p servicesFrom (heldFlags (w .«time_code») (w .«service_info»)) (w .«service_info» .present) list fourth (λ (on : w .«service_info» .present ≡ true). record { start = rw on; change = rw on; complete = rw on }) at-services (holds .served) (omega (arith, long))
+      services-here p servicesFrom (heldFlags (w .«time_code») (w .«service_info»)) (w .«service_info» .present) list
+      fourth (λ (on : w .«service_info» .present ≡ true). record { start = rw on; change = rw on; complete = rw on })
+      at-services (holds .served) (omega (arith, long))
 
-  services-right : verdict (when (flagsIn p .«svc_info») (servicesChecks p (flagsIn p) (servicesAt p))) ≡ named (fieldTwo (w .«service_info»))
-  services-right = ap₂ (λ (f : Flags) (i : ℕ). verdict (when (f .«svc_info») (servicesChecks p f i))) flags services-at ∙ services .answered
+  services-right : verdict (when (flagsIn p .«svc_info») (servicesChecks p (flagsIn p) (servicesAt p)))
+      ≡ named (fieldTwo (w .«service_info»))
+  services-right =
+      ap₂ (λ (f : Flags) (i : ℕ). verdict (when (f .«svc_info») (servicesChecks p f i))) flags services-at
+      ∙ services .answered
 
   services-shown : Languages w → servicesOf p (flagsIn p .«svc_info») (servicesAt p) ≡ servicesBack (w .«service_info»)
-  services-shown languages = ap₂ (λ (f : Flags) (i : ℕ). servicesOf p (f .«svc_info») i) flags services-at ∙ services .shown languages
+  services-shown languages =
+      ap₂ (λ (f : Flags) (i : ℕ). servicesOf p (f .«svc_info») i) flags services-at ∙ services .shown languages
 
   -- the footer
   footer-at : closingAt p ≡ footerFrom
@@ -181,19 +224,27 @@ module _ (w : CDPWriter) (rate : Framerate) (captions : List ℕ)
 
   footer-right : verdict (closingChecks p (sequenceIn p) (closingAt p)) ≡ clear
   footer-right =
-      ap₂ (λ (s i : ℕ). verdict (closingChecks p s i)) sequence footer-at ∙ closing-clear p footerFrom (w .sequence) sum at-footer long sum-right
+      ap₂ (λ (s i : ℕ). verdict (closingChecks p s i)) sequence footer-at
+      ∙ closing-clear p footerFrom (w .sequence) sum at-footer long sum-right
 
   -- the whole packet: clear, or 7 where field 2 is named
   packet-verdict : verdict (packetChecks p) ≡ named (fieldTwo (w .«service_info»))
   packet-verdict =
       in-order p
-      ∙ rw (header-right, ap (λ (f : Flags). verdict (when (f .«time_code») (timeCodeChecks p 7))) flags ∙ time .right, captions-right, services-right, footer-right)
+      ∙ rw (
+        header-right,
+        ap (λ (f : Flags). verdict (when (f .«time_code») (timeCodeChecks p 7))) flags ∙ time .right,
+        captions-right,
+        services-right,
+        footer-right,
+      )
       (and-clear (named (fieldTwo (w .«service_info»))))
 
   shown : Languages w → shownBy p ≡ shownBack w rate
   unfolding shownBy
   shown languages =
-      let timed : timeCodeOf p (flagsIn p .«time_code») 7 ≡ heldTime (w .«time_code») = ap (λ (f : Flags). timeCodeOf p (f .«time_code») 7) flags ∙ time .shown in
+      let timed : timeCodeOf p (flagsIn p .«time_code») 7 ≡ heldTime (w .«time_code») =
+      ap (λ (f : Flags). timeCodeOf p (f .«time_code») 7) flags ∙ time .shown in
       rw (rated, timed, sequence, services-shown languages)
 
   module _ (s : CDPParser) (lent : List ℕ) (room : captionRoom ≤ length lent) where
@@ -205,23 +256,29 @@ module _ (w : CDPWriter) (rate : Framerate) (captions : List ℕ)
     unfolding read
     got = simp (le-leb captionRoom (length lent) room, packet-verdict, captions-long)
 
-    after : bufferAfter p lent ≡ ifClear (named (fieldTwo (w .«service_info»))) (over 0 (captionsBack captions) lent) lent
+    after : bufferAfter p lent
+        ≡ ifClear (named (fieldTwo (w .«service_info»))) (over 0 (captionsBack captions) lent) lent
     unfolding bufferAfter
     after = simp (le-leb captionRoom (length lent) room, packet-verdict, captions-handed)
 
 -- what was written is what reading was said of
-module _ (w : CDPWriter) (rate : Framerate) (captions buffer : List ℕ) (done-so : eqb (heldWritten w rate captions buffer .answer .number) 0 ≡ true) where
-  written-is : writtenPacket w rate captions buffer ≡ packetBytes rate (w .sequence) (w .«time_code») (w .«service_info») captions
+module _ (w : CDPWriter) (rate : Framerate) (captions buffer : List ℕ)
+    (done-so : eqb (heldWritten w rate captions buffer .answer .number) 0 ≡ true) where
+  written-is : writtenPacket w rate captions buffer
+      ≡ packetBytes rate (w .sequence) (w .«time_code») (w .«service_info») captions
   written-is =
-      ap (λ (r : Written). take (r .answer .first) (r .buffer)) (packet-done rate (w .sequence) (w .«time_code») (w .«service_info») captions buffer done-so .1)
+      ap (λ (r : Written). take (r .answer .first) (r .buffer))
+      (packet-done rate (w .sequence) (w .«time_code») (w .«service_info») captions buffer done-so .1)
       ∙ first-bytes (packetBytes rate (w .sequence) (w .«time_code») (w .«service_info») captions) buffer
 
   -- as many bytes as the answer says are there
-  pub written-fits : heldWritten w rate captions buffer .answer .first ≤ length (heldWritten w rate captions buffer .buffer)
+  pub written-fits :
+      heldWritten w rate captions buffer .answer .first ≤ length (heldWritten w rate captions buffer .buffer)
   written-fits =
       let bytes : List ℕ = packetBytes rate (w .sequence) (w .«time_code») (w .«service_info») captions in
       let first : heldWritten w rate captions buffer .answer .first ≡ length bytes =
-      ap (λ (r : Written). r .answer .first) (packet-done rate (w .sequence) (w .«time_code») (w .«service_info») captions buffer done-so .1) in
+      ap (λ (r : Written). r .answer .first)
+      (packet-done rate (w .sequence) (w .«time_code») (w .«service_info») captions buffer done-so .1) in
       omega (arith, first, simp length-take at (ap length written-is))
 
   right-so : verdict (Checks.packetWriteChecks rate (w .«time_code») (w .«service_info») (length captions)) ≡ clear
@@ -238,12 +295,13 @@ module _ (w : CDPWriter) (rate : Framerate) (captions buffer : List ℕ) (done-s
         }
     reads = rw written-is (got w rate captions right-so s lent room)
 
-    leaves : bufferAfter packet lent ≡ ifClear (named (fieldTwo (w .«service_info»))) (over 0 (captionsBack captions) lent) lent
+    leaves : bufferAfter packet lent
+        ≡ ifClear (named (fieldTwo (w .«service_info»))) (over 0 (captionsBack captions) lent) lent
     leaves = rw written-is (after w rate captions right-so s lent room)
 
-    -- Writing was answered 0, and no counted entry of a held list names field 2: reading what was written, on any state and
-    -- with any caption buffer of at least 95 bytes, answers 0 and gives the values back. Crate `round_trip` has the same with
-    -- nothing asked of the languages.
+    -- Writing was answered 0, and no counted entry of a held list names field 2: reading what was written, on any
+    -- state and with any caption buffer of at least 95 bytes, answers 0 and gives the values back. Crate `round_trip`
+    -- has the same with nothing asked of the languages.
     pub round-trip : Languages w → fieldTwo (w .«service_info») ≡ false
         → ReadBack w rate captions lent (read s packet (length lent)) (bufferAfter packet lent)
     round-trip languages none =
@@ -254,5 +312,6 @@ module _ (w : CDPWriter) (rate : Framerate) (captions buffer : List ℕ) (done-s
 
     -- Where a counted entry of a held list names field 2, reading is answered 7, and refuses as it refuses any packet.
     pub field-two-answered-7 : fieldTwo (w .«service_info») ≡ true
-        → (read s packet (length lent) ≡ record { answer = refused ServiceNumberMismatch; parser = cleared s }) × (bufferAfter packet lent ≡ lent)
+        → (read s packet (length lent) ≡ record { answer = refused ServiceNumberMismatch; parser = cleared s })
+        × (bufferAfter packet lent ≡ lent)
     field-two-answered-7 some = (reads ∙ rw some, leaves ∙ rw some)

@@ -42,7 +42,8 @@ in-range t h =
     let minutes : Check = check (leb (t .minutes) 79) NotWritable in
     let seconds : Check = check (leb (t .seconds) 79) NotWritable in
     let frames : Check = check (leb (t .frames) 39) NotWritable in
-    let second : verdict (minutes ∷ seconds ∷ frames ∷ []) ≡ clear = kept-rest hours (minutes ∷ seconds ∷ frames ∷ []) h in
+    let second : verdict (minutes ∷ seconds ∷ frames ∷ []) ≡ clear =
+    kept-rest hours (minutes ∷ seconds ∷ frames ∷ []) h in
     let third : verdict (seconds ∷ frames ∷ []) ≡ clear = kept-rest minutes (seconds ∷ frames ∷ []) second in
     record {
       hours = leb-true _ _ (kept-first hours (minutes ∷ seconds ∷ frames ∷ []) h);
@@ -58,12 +59,16 @@ module _ (p : List ℕ) (i : ℕ) (t : TimeCode) (rest : List ℕ) (h : drop i p
 
   four : verdict (timeChecks (at 0) (at 1) (at 2) (at 3)) ≡ clear
   unfolding timeRead
-  four = done-clear (verdict (timeChecks (at 0) (at 1) (at 2) (at 3))) 0 (ap (λ (r : TimeCodeRead). eqb (r .answer .number) 0) (time-back t (in-range t right)))
+  four =
+      done-clear (verdict (timeChecks (at 0) (at 1) (at 2) (at 3))) 0
+      (ap (λ (r : TimeCodeRead). eqb (r .answer .number) 0) (time-back t (in-range t right)))
 
   value : timeOf (at 0) (at 1) (at 2) (at 3) ≡ t
   unfolding timeRead
   value =
-      sym (done-value (verdict (timeChecks (at 0) (at 1) (at 2) (at 3))) 0 (timeOf (at 0) (at 1) (at 2) (at 3)) noTime (ap (λ (r : TimeCodeRead). eqb (r .answer .number) 0) (time-back t (in-range t right))))
+      sym
+      (done-value (verdict (timeChecks (at 0) (at 1) (at 2) (at 3))) 0 (timeOf (at 0) (at 1) (at 2) (at 3)) noTime
+      (ap (λ (r : TimeCodeRead). eqb (r .answer .number) 0) (time-back t (in-range t right))))
       ∙ ap (λ (r : TimeCodeRead). r .«time_code») (time-back t (in-range t right))
 
   abbrev bytes : List ℕ
@@ -74,7 +79,14 @@ module _ (p : List ℕ) (i : ℕ) (t : TimeCode) (rest : List ℕ) (h : drop i p
 
   pub time-clear : i + 5 ≤ length p → verdict (timeCodeChecks p i) ≡ clear
   time-clear fits =
-      simp (le-leb _ _ fits, eq-eqb _ _ id, byte-on p i bytes h 1, byte-on p i bytes h 2, byte-on p i bytes h 3, byte-on p i bytes h 4) four
+      simp (
+        le-leb _ _ fits,
+        eq-eqb _ _ id,
+        byte-on p i bytes h 1,
+        byte-on p i bytes h 2,
+        byte-on p i bytes h 4,
+      )
+      four
 
   pub time-value : timeCodeIn p i ≡ t
   time-value = simp (byte-on p i bytes h 1, byte-on p i bytes h 2, byte-on p i bytes h 3, byte-on p i bytes h 4) value
@@ -103,7 +115,12 @@ module _ (p : List ℕ) (i : ℕ) (captions : List ℕ) (rest : List ℕ) (h : d
   pub captions-clear : i + (2 + run) ≤ length p → verdict (captionsChecks p i) ≡ clear
   captions-clear fits =
       let fixed : byte p (i + 1) / 32 % 8 ≡ 7 = rw header (fixed-bits (run / 3) (omega arith)) in
-      simp (le-leb (i + 2) (length p) (omega arith), eq-eqb _ _ first, eq-eqb _ _ fixed, le-leb (i + captionsSize p i) (length p) (omega (arith, size-is)))
+      simp (
+        le-leb (i + 2) (length p) (omega arith),
+        eq-eqb _ _ first,
+        eq-eqb _ _ fixed,
+        le-leb (i + captionsSize p i) (length p) (omega (arith, size-is)),
+      )
 
   behind : drop (i + 2) p ≡ captions ++ rest
   behind = further-on p i (captionsId ∷ (0xE0 + run / 3) ∷ []) (captions ++ rest) h 2 refl
@@ -111,10 +128,12 @@ module _ (p : List ℕ) (i : ℕ) (captions : List ℕ) (rest : List ℕ) (h : d
   pub captions-value : handedOut p i ≡ captionsBack captions
   captions-value =
       let long : 3 * captionCount p i ≡ run = omega (arith, header) in
-      ap₂ (λ (n : ℕ) (xs : List ℕ). (0xC0 + n) ∷ 0xFF ∷ xs) count-is (part-on p (i + 2) captions rest behind (3 * captionCount p i) long)
+      ap₂ (λ (n : ℕ) (xs : List ℕ). (0xC0 + n) ∷ 0xFF ∷ xs) count-is
+      (part-on p (i + 2) captions rest behind (3 * captionCount p i) long)
 
 -- services: the section that was written, its list, and flags that agree with the header's
-module _ (p : List ℕ) (i : ℕ) (l : ServiceInfo) (rest : List ℕ) (h : drop i p ≡ sectionBytes l ++ rest) (r : Ready l) where
+module _ (p : List ℕ) (i : ℕ) (l : ServiceInfo) (rest : List ℕ) (h : drop i p ≡ sectionBytes l ++ rest)
+    (r : Ready l) where
   second : byte p (i + 1) ≡ sectionByte l
   unfolding sectionBytes
   second = byte-on p i (sectionBytes l ++ rest) h 1
@@ -134,7 +153,8 @@ module _ (p : List ℕ) (i : ℕ) (l : ServiceInfo) (rest : List ℕ) (h : drop 
 
   -- the header's flags are the list's
   flags-back : (f : Flags) → FlagsOf f l → FlagsOf f (listOf (servicesPart p i))
-  flags-back f h = rw (section-bytes, byte-back l r) (record { start = h .start; change = h .change; complete = h .complete })
+  flags-back f h =
+      rw (section-bytes, byte-back l r) (record { start = h .start; change = h .change; complete = h .complete })
 
   pub services-verdict : (f : Flags) → FlagsOf f l → i + sectionLength (l .count) ≤ length p
       → verdict (servicesChecks p f i) ≡ named (namesFieldTwo (counted l))

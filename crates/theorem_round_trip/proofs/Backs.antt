@@ -24,7 +24,8 @@ module _ (w : CDPWriter) (rate : Framerate) (captions buffer : List ℕ) (s : CD
 
   -- what the writer answered and left
   module _ (a : Answer) (left : List ℕ) (answered : a ≡ out .answer) (leaves : left ≡ out .buffer) where
-    pub unread : eqb (a .number) 0 ≡ false → WrittenAndRead w rate captions buffer s lent (record { answer = a; parser = s }) left lent
+    pub unread : eqb (a .number) 0 ≡ false
+        → WrittenAndRead w rate captions buffer s lent (record { answer = a; parser = s }) left lent
     unread undone =
         let so : eqb (out .answer .number) 0 ≡ false = ap (λ (b : Answer). eqb (b .number) 0) (sym answered) ∙ undone in
         record {
@@ -41,8 +42,10 @@ module _ (w : CDPWriter) (rate : Framerate) (captions buffer : List ℕ) (s : CD
       pub fits : a .first ≤ length left
       fits = rw (answered, leaves) (written-fits w rate captions buffer so)
 
-      pub reread : Languages w → (got : CDPParserRead) (after : List ℕ) → got ≡ read s (take (a .first) left) (length lent)
-          → after ≡ bufferAfter (take (a .first) left) lent → WrittenAndRead w rate captions buffer s lent got left after
+      pub reread : Languages w → (got : CDPParserRead) (after : List ℕ)
+          → got ≡ read s (take (a .first) left) (length lent)
+          → after ≡ bufferAfter (take (a .first) left) lent
+          → WrittenAndRead w rate captions buffer s lent got left after
       reread three got after gives hands =
           let whole : take (a .first) left ≡ writtenPacket w rate captions buffer = rw (answered, leaves) in
           rw (gives, hands, whole)

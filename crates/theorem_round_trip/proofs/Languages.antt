@@ -24,15 +24,18 @@ use Rattle.writer.specs.declared.writer.CDPWriter.{CDPWriter}
 
 -- the values of an array of entries, one after the other: the type of each has its language of three bytes
 each-three : (es : List ServiceEntry) (us : List Val)
-    → shadow (each (Entry.the-field .row .Denot) (Entry.the-field .row .own) (map (Entry.the-field .into) es) us) → allOfThree es ≡ true
+    → shadow (each (Entry.the-field .row .Denot) (Entry.the-field .row .own) (map (Entry.the-field .into) es) us)
+    → allOfThree es ≡ true
 unfolding allOfThree
 each-three [] us h = refl
 each-three (e ∷ es) [] h = absurd h
 each-three (e ∷ es) (u ∷ us) h =
-    rw (eq-eqb (length (e .language)) 3 (sym (length-map (e .language) (λ v. v)) ∙ h .0 .1 .1 .0 .1 .0 .1)) (each-three es us (h .1))
+    rw (eq-eqb (length (e .language)) 3 (sym (length-map (e .language) (λ v. v)) ∙ h .0 .1 .1 .0 .1 .0 .1))
+    (each-three es us (h .1))
 
 -- so has each of its places, and the filler
-three-at : (es : List ServiceEntry) → allOfThree es ≡ true → (k : ℕ) → eqb (length (getD es k filler .language)) 3 ≡ true
+three-at : (es : List ServiceEntry) → allOfThree es ≡ true → (k : ℕ)
+    → eqb (length (getD es k filler .language)) 3 ≡ true
 unfolding allOfThree
 three-at [] h k = refl
 three-at (e ∷ es) h zero = and-left _ _ h

@@ -4,7 +4,17 @@ use mathlib.Core.Path.{_∙_}
 use Prim.Native.Nat.{_+_, _-_}
 use native.Mathlib.Omega.{arith}
 use borrow.Author.Needs.{needs}
-use Rattle.read_closing.proofs.ClosingReads.{Reached, begins, footer-reached, future-cut, goes-on, id-high, id-low, nothing-behind, nothing-there}
+use Rattle.read_closing.proofs.ClosingReads.{
+  Reached,
+  begins,
+  footer-reached,
+  future-cut,
+  goes-on,
+  id-high,
+  id-low,
+  nothing-behind,
+  nothing-there,
+}
 use Rattle.read_closing.proofs.closing.test_closing.Statement.{statement}
 use Rattle.read_closing.proofs.closing.test_closing.Tie as tie
 
@@ -13,6 +23,16 @@ Inv-loop packet sequence at size i₀ i = Reached packet sequence at i
 
 abbrev μ-loop : tie.MeasureT-loop
 μ-loop packet sequence at size i₀ i = size - i
+
+-- the stations: the loop's head, and where a turn has begun, reached from its last test of the id and from its length
+abbrev loop-head : tie.Then2 Inv-loop μ-loop → tie.At-loop Inv-loop μ-loop
+loop-head c = c .before .before
+
+abbrev turn-begun : tie.After-shared-slice-known4 Inv-loop μ-loop → tie.Then2 Inv-loop μ-loop
+turn-begun c = c .before .before .before
+
+abbrev turn-tested : tie.After-shared-slice-known5 Inv-loop μ-loop → tie.Then2 Inv-loop μ-loop
+turn-tested c = turn-begun (c .before .before)
 
 add-if1 : tie.Need-add-if1 Inv-loop μ-loop
 add-if1 c = search needs
@@ -36,13 +56,15 @@ shared-slice-read-if3 : tie.Need-shared-slice-read-if3 Inv-loop μ-loop
 shared-slice-read-if3 c = search needs
 
 returns-2 : tie.Need-returns-2 Inv-loop μ-loop
-returns-2 c = id-low _ _ _ _ (c .before .before .before .before .loop .inv) (c .before .before .if2 .taken) (omega arith)
+returns-2 c = id-low _ _ _ _ (loop-head (c .before .before) .loop .inv) (c .before .before .if2 .taken) (omega arith)
 
 shared-slice-read-if4 : tie.Need-shared-slice-read-if4 Inv-loop μ-loop
 shared-slice-read-if4 c = search needs
 
 returns-3 : tie.Need-returns-3 Inv-loop μ-loop
-returns-3 c = id-high _ _ _ _ (c .before .before .before .before .before .before .loop .inv) (c .before .before .before .before .if2 .taken) (omega arith) (omega arith)
+returns-3 c =
+    let inv = loop-head (turn-begun (c .before)) .loop .inv in
+    id-high _ _ _ _ inv (turn-begun (c .before) .if2 .taken) (omega arith) (omega arith)
 
 add-length : tie.Need-add-length Inv-loop μ-loop
 add-length c = search needs
@@ -51,25 +73,29 @@ shared-slice-read-length : tie.Need-shared-slice-read-length Inv-loop μ-loop
 shared-slice-read-length c = search needs
 
 cast-length : tie.Need-cast-length Inv-loop μ-loop
-cast-length c = omega (arith, c .shared-slice-known5 .given (c .before .before .before .before .before .before .before .loop .i + 1))
+cast-length c = omega (arith, c .shared-slice-known5 .given (loop-head (turn-tested c) .loop .i + 1))
 
 add-if5 : tie.Need-add-if5 Inv-loop μ-loop
 add-if5 c = search needs
 
 add-if5-2 : tie.Need-add-if5-2 Inv-loop μ-loop
-add-if5-2 c = omega (arith, c .shared-slice-known5 .given (c .before .before .before .before .before .before .before .loop .i + 1))
+add-if5-2 c = omega (arith, c .shared-slice-known5 .given (loop-head (turn-tested c) .loop .i + 1))
 
 add-length-mismatch-2 : tie.Need-add-length-mismatch-2 Inv-loop μ-loop
 add-length-mismatch-2 c = search needs
 
 add-length-mismatch-3 : tie.Need-add-length-mismatch-3 Inv-loop μ-loop
-add-length-mismatch-3 c = omega (arith, c .before .shared-slice-known5 .given (c .before .before .before .before .before .before .before .before .loop .i + 1))
+add-length-mismatch-3 c =
+    omega (arith, c .before .shared-slice-known5 .given (loop-head (turn-tested (c .before)) .loop .i + 1))
 
 length-mismatch-requires-2 : tie.Need-length-mismatch-requires-2 Inv-loop μ-loop
 length-mismatch-requires-2 c κs = search needs
 
 returns-4 : tie.Need-returns-4 Inv-loop μ-loop
-returns-4 c = c .length-mismatch2 .ensures ∙ future-cut _ _ _ _ (c .before .before .before .before .before .before .before .before .before .loop .inv) (c .before .before .before .before .before .before .before .if2 .taken) (omega arith) (omega arith) (omega arith)
+returns-4 c =
+    let inv = loop-head (turn-tested (c .before .before)) .loop .inv in
+    let future = turn-tested (c .before .before) .if2 .taken in
+    c .length-mismatch2 .ensures ∙ future-cut _ _ _ _ inv future (omega arith) (omega arith) (omega arith)
 
 add-next : tie.Need-add-next Inv-loop μ-loop
 add-next c = search needs
@@ -87,13 +113,20 @@ length-mismatch-requires-3 : tie.Need-length-mismatch-requires-3 Inv-loop μ-loo
 length-mismatch-requires-3 c κs = search needs
 
 returns-5 : tie.Need-returns-5 Inv-loop μ-loop
-returns-5 c = c .length-mismatch3 .ensures ∙ nothing-behind _ _ _ _ (c .before .before .before .before .before .before .before .before .before .before .loop .inv) (c .before .before .before .before .before .before .before .before .if2 .taken) (omega arith) (omega arith) (omega arith) (omega arith)
+returns-5 c =
+    let inv = loop-head (turn-tested (c .before .before .before)) .loop .inv in
+    let future = turn-tested (c .before .before .before) .if2 .taken in
+    c .length-mismatch3 .ensures
+    ∙ nothing-behind _ _ _ _ inv future (omega arith) (omega arith) (omega arith) (omega arith)
 
 loop-less : tie.Need-loop-less Inv-loop μ-loop
 loop-less c = search needs
 
 loop-again : tie.Need-loop-again Inv-loop μ-loop
-loop-again c = goes-on _ _ _ _ (c .before .before .before .before .before .before .before .before .before .loop .inv) (c .before .before .before .before .before .before .before .if2 .taken) (omega arith) (omega arith) (omega arith) (omega arith)
+loop-again c =
+    let inv = loop-head (turn-tested (c .before .before)) .loop .inv in
+    let future = turn-tested (c .before .before) .if2 .taken in
+    goes-on _ _ _ _ inv future (omega arith) (omega arith) (omega arith) (omega arith)
 
 test-footer-requires : tie.Need-test-footer-requires Inv-loop μ-loop
 test-footer-requires c κs = search needs

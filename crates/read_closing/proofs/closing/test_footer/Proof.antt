@@ -8,6 +8,11 @@ use borrow.Author.Needs.{needs}
 use Rattle.read_closing.proofs.closing.test_footer.Statement.{statement}
 use Rattle.read_closing.proofs.closing.test_footer.Tie as tie
 
+-- the station behind the sequence count's test, reached through the checksum's call;
+-- `rw` sees through it where it is listed
+abbrev sequence-right : tie.After-checksum-byte → tie.Else2
+sequence-right c = c .before .before .before
+
 add-if1 : tie.Need-add-if1
 add-if1 c = search needs
 
@@ -57,17 +62,19 @@ checksum-byte-requires c κs = search needs
 
 returns-3 : tie.Need-returns-3
 returns-3 c =
-    let e = c .before .before .before .before .before .sequence-count .ensures in
-    other-checksum _ _ _ (omega arith) (rw e at (c .before .before .before .before .if2 .left)) (rw (c .before .checksum-byte .ensures) at (c .if3 .taken))
+    let sequence = sequence-right (c .before) .before .sequence-count .ensures in
+    let same = rw (sequence-right, sequence) at (sequence-right (c .before) .if2 .left) in
+    other-checksum _ _ _ (omega arith) same (rw (c .before .checksum-byte .ensures) at (c .if3 .taken))
 
 done-requires : tie.Need-done-requires
 done-requires c κs = search needs
 
 returns-4 : tie.Need-returns-4
 returns-4 c =
-    let e = c .before .before .before .before .before .before .sequence-count .ensures in
-    c .done .ensures
-    ∙ footer-whole _ _ _ (omega arith) (rw e at (c .before .before .before .before .before .if2 .left)) (rw (c .before .before .checksum-byte .ensures) at (c .before .if3 .left))
+    let sequence = sequence-right (c .before .before) .before .sequence-count .ensures in
+    let same = rw (sequence-right, sequence) at (sequence-right (c .before .before) .if2 .left) in
+    let sum = rw (c .before .before .checksum-byte .ensures) at (c .before .if3 .left) in
+    c .done .ensures ∙ footer-whole _ _ _ (omega arith) same sum
 
 pub test-footer-spec : {M : Type 1} → statement M
 test-footer-spec =

@@ -4,10 +4,34 @@ use mathlib.Core.Path.{_∙_, ap, sym}
 use native.Mathlib.Omega.{arith}
 use borrow.Author.Tests.{not-true, not-false}
 use Rattle.basis.specs.Code.{alone}
-use Rattle.read_services.proofs.ServicesReads.{entries-cut, not-there, other-flags, other-id, section-refused, services-whole, too-short}
+use Rattle.read_services.proofs.ServicesReads.{
+  entries-cut,
+  not-there,
+  other-flags,
+  other-id,
+  section-refused,
+  services-whole,
+  too-short,
+}
 use borrow.Author.Needs.{needs}
 use Rattle.read_services.proofs.services.test_services.Statement.{statement}
 use Rattle.read_services.proofs.services.test_services.Tie as tie
+
+-- the stations: what has been found of the section, each reached through the one behind it
+abbrev section-there : tie.After-shared-slice-known2 → tie.Else1
+section-there c = c .before .before
+
+abbrev id-right : tie.After-shared-slice-known3 → tie.Else3
+id-right c = c .before
+
+abbrev entries-tested : tie.After-is-done → tie.After-test-section
+entries-tested c = c .before
+
+abbrev flag-set : tie.After-is-done → tie.Else1
+flag-set c = section-there (id-right (entries-tested c .before .before .before) .before)
+
+abbrev entries-right : tie.After-same-flags → tie.Else5
+entries-right c = c .before
 
 done-requires : tie.Need-done-requires
 done-requires c κs = search needs
@@ -16,7 +40,9 @@ alone-requires : tie.Need-alone-requires
 alone-requires c κs = search needs
 
 returns : tie.Need-returns
-returns c = c .alone .ensures ∙ rw (c .before .done .ensures) (not-there _ _ _ (not-true _ (c .before .before .if1 .taken)))
+returns c =
+    c .alone .ensures
+    ∙ rw (c .before .done .ensures) (not-there _ _ _ (not-true _ (c .before .before .if1 .taken)))
 
 add-if2 : tie.Need-add-if2
 add-if2 c = search needs
@@ -31,7 +57,10 @@ alone-requires-2 : tie.Need-alone-requires-2
 alone-requires-2 c κs = search needs
 
 returns-2 : tie.Need-returns-2
-returns-2 c = c .alone2 .ensures ∙ rw (c .before .length-mismatch .ensures) (too-short _ _ _ (not-false _ (c .before .before .before .if1 .left)) (omega arith))
+returns-2 c =
+    c .alone2 .ensures
+    ∙ rw (c .before .length-mismatch .ensures)
+    (too-short _ _ _ (not-false _ (c .before .before .before .if1 .left)) (omega arith))
 
 shared-slice-read-if3 : tie.Need-shared-slice-read-if3
 shared-slice-read-if3 c = search needs
@@ -40,7 +69,9 @@ alone-requires-3 : tie.Need-alone-requires-3
 alone-requires-3 c κs = search needs
 
 returns-3 : tie.Need-returns-3
-returns-3 c = c .alone3 .ensures ∙ other-id _ _ _ (not-false _ (c .before .before .before .before .if1 .left)) (omega arith) (λ h. omega arith)
+returns-3 c =
+    c .alone3 .ensures
+    ∙ other-id _ _ _ (not-false _ (section-there (c .before .before) .if1 .left)) (omega arith) (λ h. omega arith)
 
 add-header : tie.Need-add-header
 add-header c = search needs
@@ -70,7 +101,11 @@ alone-requires-4 : tie.Need-alone-requires-4
 alone-requires-4 c κs = search needs
 
 returns-4 : tie.Need-returns-4
-returns-4 c = c .alone4 .ensures ∙ rw (c .before .length-mismatch2 .ensures) (entries-cut _ _ _ (not-false _ (c .before .before .before .before .before .before .before .if1 .left)) (omega arith) (omega arith) (omega arith))
+returns-4 c =
+    let there = section-there (id-right (c .before .before .before) .before) .if1 .left in
+    c .alone4 .ensures
+    ∙ rw (c .before .length-mismatch2 .ensures)
+    (entries-cut _ _ _ (not-false _ there) (omega arith) (omega arith) (omega arith))
 
 add-test-section : tie.Need-add-test-section
 add-test-section c = search needs
@@ -95,9 +130,12 @@ alone-requires-5 c κs = search needs
 
 returns-5 : tie.Need-returns-5
 returns-5 c =
-    let e = c .before .before .before .test-section .ensures in
+    let e = entries-tested (c .before .before) .test-section .ensures in
     let wrong = rw e at (sym (c .before .before .is-done .ensures) ∙ not-true _ (c .before .if5 .taken)) in
-    c .alone5 .ensures ∙ ap alone e ∙ section-refused _ _ _ (not-false _ (c .before .before .before .before .before .before .before .before .before .before .if1 .left)) (omega arith) (omega arith) (omega arith) wrong
+    let there = flag-set (c .before .before) .if1 .left in
+    c .alone5 .ensures
+    ∙ ap alone e
+    ∙ section-refused _ _ _ (not-false _ there) (omega arith) (omega arith) (omega arith) wrong
 
 same-flags-requires : tie.Need-same-flags-requires
 same-flags-requires c κs = search needs
@@ -107,20 +145,26 @@ alone-requires-6 c κs = search needs
 
 returns-6 : tie.Need-returns-6
 returns-6 c =
-    let e = c .before .before .before .before .before .test-section .ensures in
-    let right = rw e at (sym (c .before .before .before .before .is-done .ensures) ∙ not-false _ (c .before .before .before .if5 .left)) in
+    let e = entries-tested (entries-right (c .before .before) .before) .test-section .ensures in
+    let done = entries-right (c .before .before) .before .is-done .ensures in
+    let right = rw e at (sym done ∙ not-false _ (entries-right (c .before .before) .if5 .left)) in
     let differ = sym (c .before .before .same-flags .ensures) ∙ not-true _ (c .before .if6 .taken) in
-    c .alone6 .ensures ∙ other-flags _ _ _ (not-false _ (c .before .before .before .before .before .before .before .before .before .before .before .before .if1 .left)) (omega arith) (omega arith) (omega arith) right differ
+    let there = flag-set (entries-right (c .before .before) .before) .if1 .left in
+    c .alone6 .ensures
+    ∙ other-flags _ _ _ (not-false _ there) (omega arith) (omega arith) (omega arith) right differ
 
 sized-requires : tie.Need-sized-requires
 sized-requires c κs = search needs
 
 returns-7 : tie.Need-returns-7
 returns-7 c =
-    let e = c .before .before .before .before .before .test-section .ensures in
-    let right = rw e at (sym (c .before .before .before .before .is-done .ensures) ∙ not-false _ (c .before .before .before .if5 .left)) in
+    let e = entries-tested (entries-right (c .before .before) .before) .test-section .ensures in
+    let done = entries-right (c .before .before) .before .is-done .ensures in
+    let right = rw e at (sym done ∙ not-false _ (entries-right (c .before .before) .if5 .left)) in
     let agree = sym (c .before .before .same-flags .ensures) ∙ not-false _ (c .before .if6 .left) in
-    c .sized .ensures ∙ services-whole _ _ _ (not-false _ (c .before .before .before .before .before .before .before .before .before .before .before .before .if1 .left)) (omega arith) (omega arith) (omega arith) right agree
+    let there = flag-set (entries-right (c .before .before) .before) .if1 .left in
+    c .sized .ensures
+    ∙ services-whole _ _ _ (not-false _ there) (omega arith) (omega arith) (omega arith) right agree
 
 pub test-services-spec : {M : Type 1} → statement M
 test-services-spec =

@@ -9,6 +9,25 @@ use borrow.Author.Needs.{needs}
 use Rattle.reader.proofs.hand_out.hand_out.Statement.{statement}
 use Rattle.reader.proofs.hand_out.hand_out.Tie as tie
 
+-- the stations: the entry, the section found, and each put, each reached through the one behind it
+abbrev entry : tie.Else1 → tie.Start
+entry c = c .before .before .before
+
+abbrev count-read : tie.After-put → tie.After-shared-slice-known2
+count-read c = c .before .before .before
+
+abbrev head-put : tie.After-put-arg3 → tie.After-put
+head-put c = c .before .before .before
+
+abbrev captions-there : tie.After-put-arg3 → tie.Else1
+captions-there c = count-read (head-put c) .before
+
+abbrev captions-put : tie.After-slice-known3 → tie.After-put2
+captions-put c = c .before .before
+
+abbrev captions-lent : tie.After-slice-known3 → tie.After-put-arg3
+captions-lent c = captions-put c .before .before
+
 returns : tie.Need-returns
 returns c =
     let s = c .before .before .before .args in
@@ -18,7 +37,7 @@ add-count : tie.Need-add-count
 add-count c = search needs
 
 shared-slice-read-count : tie.Need-shared-slice-read-count
-shared-slice-read-count c = omega (arith, c .before .before .before .before .pre .0 (not-false _ (c .before .if1 .left)))
+shared-slice-read-count c = omega (arith, entry (c .before) .pre .0 (not-false _ (c .before .if1 .left)))
 
 cast-end : tie.Need-cast-end
 cast-end c = search needs
@@ -51,7 +70,8 @@ part-put-start : tie.Need-part-put-start
 part-put-start c = search needs
 
 part-put-end : tie.Need-part-put-end
-part-put-end c = omega (arith, c .before .before .before .before .before .before .before .before .before .before .pre .0 (not-false _ (c .before .before .before .before .before .before .before .if1 .left)))
+part-put-end c =
+    omega (arith, entry (captions-there c) .pre .0 (not-false _ (captions-there c .if1 .left)))
 
 put-requires-2 : tie.Need-put-requires-2
 put-requires-2 c κs = search needs
@@ -61,10 +81,12 @@ same-length c = search needs
 
 returns-2 : tie.Need-returns-2
 returns-2 c =
-    let s = c .before .before .before .before .before .before .before .before .before .before .before .before .before .before .args in
-    let there = not-false (s .present) (c .before .before .before .before .before .before .before .before .before .before .before .if1 .left) in
-    c .before .before .put2 .ensures .1
-    ∙ rw (c .before .before .before .before .before .before .before .put .ensures .1) (all-out (now (s .packet)) (s .at) (now (s .captions)) (s .present) there (omega (arith, c .before .before .before .before .before .before .before .before .before .before .before .before .before .before .pre .0 there)) (omega arith))
+    let s = entry (captions-there (captions-lent c)) .args in
+    let there = not-false (s .present) (captions-there (captions-lent c) .if1 .left) in
+    let room = entry (captions-there (captions-lent c)) .pre .0 there in
+    captions-put c .put2 .ensures .1
+    ∙ rw (captions-put, head-put (captions-lent c) .put .ensures .1)
+    (all-out (now (s .packet)) (s .at) (now (s .captions)) (s .present) there (omega (arith, room)) (omega arith))
 
 pub hand-out-spec : {M : Type 1} → statement M
 hand-out-spec =

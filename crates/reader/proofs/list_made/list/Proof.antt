@@ -14,7 +14,8 @@ add-header c = search needs
 header-requires : tie.Need-header-requires
 header-requires c κs =
     let s = c .before in
-    header-there (now (s .args .packet)) (s .args .flags) (s .args .at) (kept-so (now (s .args .packet)) (s .args .flags) (s .args .at) (s .pre .0) (s .pre .1 .0) (s .pre .1 .1))
+    header-there (now (s .args .packet)) (s .args .flags) (s .args .at)
+    (kept-so (now (s .args .packet)) (s .args .flags) (s .args .at) (s .pre .0) (s .pre .1 .0) (s .pre .1 .1))
 
 cast-count : tie.Need-cast-count
 cast-count c = search needs
@@ -25,13 +26,18 @@ add-places c = search needs
 places-requires : tie.Need-places-requires
 places-requires c κs =
     let s = c .before .before in
-    rw (c .header .ensures)
-    (omega arith, entries-fit (now (s .args .packet)) (s .args .flags) (s .args .at) (kept-so (now (s .args .packet)) (s .args .flags) (s .args .at) (s .pre .0) (s .pre .1 .0) (s .pre .1 .1)))
+    rw (c .header .ensures) (
+      omega arith,
+      entries-fit (now (s .args .packet)) (s .args .flags) (s .args .at)
+          (kept-so (now (s .args .packet)) (s .args .flags) (s .args .at) (s .pre .0) (s .pre .1 .0) (s .pre .1 .1)),
+    )
 
 returns : tie.Need-returns
 returns c =
     let s = c .before .before .before in
-    rw (c .places .ensures, c .before .header .ensures) (list-is (now (s .args .packet)) (s .args .flags) (s .args .at) (kept-so (now (s .args .packet)) (s .args .flags) (s .args .at) (s .pre .0) (s .pre .1 .0) (s .pre .1 .1)))
+    rw (c .places .ensures, c .before .header .ensures)
+    (list-is (now (s .args .packet)) (s .args .flags) (s .args .at)
+    (kept-so (now (s .args .packet)) (s .args .flags) (s .args .at) (s .pre .0) (s .pre .1 .0) (s .pre .1 .1)))
 
 pub list-spec : {M : Type 1} → statement M
 list-spec =

@@ -10,10 +10,15 @@ use Rattle.reader.proofs.list_made.places.Statement.{statement}
 use Rattle.reader.proofs.list_made.places.Tie as tie
 
 abbrev Inv-loop : tie.InvT-loop
-Inv-loop packet from count services₀ k₀ services k = (k ≤ count) × (length services ≡ 15) × (services ≡ firstRead packet from k)
+Inv-loop packet from count services₀ k₀ services k =
+    (k ≤ count) × (length services ≡ 15) × (services ≡ firstRead packet from k)
 
 abbrev μ-loop : tie.MeasureT-loop
 μ-loop packet from count services₀ k₀ services k = count - k
+
+-- the station at the entry, reached through the loop's head
+abbrev entry : tie.At-loop Inv-loop μ-loop → tie.Start Inv-loop μ-loop
+entry c = c .before .before .before
 
 fillers-requires : tie.Need-fillers-requires Inv-loop μ-loop
 fillers-requires c κs = search needs
@@ -48,7 +53,7 @@ loop-again c =
     (omega arith, simp length-set (inv .1), rw (inv .2, c .entry .ensures) (first-more _ _ _ (omega arith)))
 
 returns : tie.Need-returns Inv-loop μ-loop
-returns c = c .before .loop .inv .2 ∙ first-all _ _ _ (c .before .before .before .before .args .count) (omega arith)
+returns c = c .before .loop .inv .2 ∙ first-all _ _ _ (entry (c .before) .args .count) (omega arith)
 
 pub places-spec : {M : Type 1} → statement M
 places-spec =

@@ -8,6 +8,17 @@ use borrow.Author.Needs.{needs}
 use Rattle.read_header.proofs.header.Header.parse.Statement.{statement}
 use Rattle.read_header.proofs.header.Header.parse.Tie as tie
 
+-- the stations: what has been read of the packet, each reached through the one behind it;
+-- `rw` sees through those that it lists
+abbrev rate-read : tie.After-struct-known → tie.After-from-id
+rate-read c = c .before
+
+abbrev rate-there : tie.After-from-byte → tie.Else5
+rate-there c = c .before .before .before
+
+abbrev flags-read : tie.After-sequence-count → tie.After-from-byte
+flags-read c = c .before .before .before
+
 length-mismatch-requires : tie.Need-length-mismatch-requires
 length-mismatch-requires c κs = search needs
 
@@ -48,7 +59,10 @@ refused-requires-4 : tie.Need-refused-requires-4
 refused-requires-4 c κs = search needs
 
 returns-4 : tie.Need-returns-4
-returns-4 c = c .refused4 .ensures ∙ rw (c .before .length-mismatch2 .ensures) (other-size _ (omega arith) (omega arith) (omega arith) (λ h. omega arith))
+returns-4 c =
+    c .refused4 .ensures
+    ∙ rw (c .before .length-mismatch2 .ensures)
+    (other-size _ (omega arith) (omega arith) (omega arith) (λ h. omega arith))
 
 shared-slice-read-from-id : tie.Need-shared-slice-read-from-id
 shared-slice-read-from-id c = search needs
@@ -61,7 +75,8 @@ refused-requires-5 c κs = search needs
 
 returns-5 : tie.Need-returns-5
 returns-5 c =
-    let missing = rw (c .before .before .before .from-id .ensures) at (not-true (c .before .before .before .from-id .result .present) (c .before .if5 .taken)) in
+    let rate = rate-read (c .before .before) .from-id in
+    let missing = rw (rate .ensures) at (not-true (rate .result .present) (c .before .if5 .taken)) in
     c .refused5 .ensures ∙ no-rate _ (omega arith) (omega arith) (omega arith) (omega arith) missing
 
 done-requires : tie.Need-done-requires
@@ -84,9 +99,16 @@ sequence-count-requires c κs = search needs
 
 returns-6 : tie.Need-returns-6
 returns-6 c =
-    let e = c .before .before .before .before .before .before .before .before .from-id .ensures in
-    let present = rw e at (not-false (c .before .before .before .before .before .before .before .before .from-id .result .present) (c .before .before .before .before .before .before .if5 .left)) in
-    rw (c .before .before .before .before .before .done .ensures, e, c .before .before .before .from-byte .ensures, c .sequence-count .ensures)
+    let rate = rate-read (rate-there (flags-read c) .before) .from-id in
+    let present = rw (rate .ensures) at (not-false (rate .result .present) (rate-there (flags-read c) .if5 .left)) in
+    rw (
+      flags-read c .before .before .done .ensures,
+      rate .ensures,
+      rate-there,
+      flags-read,
+      flags-read c .from-byte .ensures,
+      c .sequence-count .ensures,
+    )
     (header-whole _ (omega arith) (omega arith) (omega arith) (omega arith) present)
 
 pub parse-spec : {M : Type 1} → statement M

@@ -12,56 +12,161 @@ use Rattle.read_header.specs.Code.{headerRead}
 use Rattle.read_packet.specs.Packet.{captionsLength}
 use Rattle.read_packet.specs.Code.{refusedChecked}
 use Rattle.basis.specs.Code.{sized}
-use Rattle.read_packet.proofs.PacketReads.{captionsAsked, captions-is, captions-near, captions-refused, closing-near, closing-refused, header-is, header-refused, headerShown, servicesAsked, packet-whole, servicesMoved, services-is, services-near, services-refused, time-code-is, time-code-refused, timeCodeAsked, timeCodeShown}
+use Rattle.read_time_code.specs.declared.time_code.TimeCodeSection.{TimeCodeSection}
+use Rattle.basis.specs.Check.{sizeWhen}
+use Rattle.basis.specs.declared.tested.Tested.{Tested}
+use Rattle.read_header.specs.Header.{flagsIn}
+use Rattle.read_packet.proofs.PacketReads.{
+  captionsAsked,
+  captions-is,
+  captions-near,
+  captions-refused,
+  closing-near,
+  closing-refused,
+  closingAsked,
+  header-is,
+  header-refused,
+  headerShown,
+  packet-whole,
+  servicesAsked,
+  servicesMoved,
+  services-is,
+  services-near,
+  services-refused,
+  time-code-is,
+  time-code-refused,
+  timeCodeAsked,
+  timeCodeShown,
+}
+use Rattle.read_packet.proofs.PacketAsked.{
+  all-shown-so,
+  captions-asked-so,
+  closing-asked-so,
+  services-asked-so,
+  time-code-asked-so,
+}
 use borrow.Author.Needs.{needs}
 use Rattle.read_packet.proofs.checked.Checked.parse.Statement.{statement}
 use Rattle.read_packet.proofs.checked.Checked.parse.Tie as tie
 
--- where each of the parts has been accepted: the packet, that the part is done, and what it shows
-abbrev packet1 : tie.Else1 → List ℕ
-packet1 c = now (c .before .before .before .before .before .args .packet)
+-- the stations: where each part has been read, and where the one in front of it has been accepted,
+-- each reached through the one behind it
+abbrev header-read : tie.After-is-done → tie.After-parse
+header-read c = c .before .before
 
-header-kept : (c : tie.Else1) → eqb (headerRead (packet1 c) .answer .number) 0 ≡ true
-header-kept c = rw (c .before .before .before .parse .ensures) at (sym (c .before .is-done .ensures) ∙ not-false _ (c .if1 .left))
+abbrev time-code-read : tie.After-is-done2 → tie.After-parse2
+time-code-read c = c .before .before
 
-header-result : (c : tie.Else1) → c .before .before .before .parse .result ≡ headerShown (packet1 c)
-header-result c = c .before .before .before .parse .ensures ∙ header-is _ (header-kept c)
+abbrev header-accepted : tie.After-is-done2 → tie.Else1
+header-accepted c = time-code-read c .before .before
 
-abbrev packet2 : tie.Else2 → List ℕ
-packet2 c = packet1 (c .before .before .before .before .before)
+abbrev captions-read : tie.After-is-done3 → tie.After-test-captions
+captions-read c = c .before .before
 
-time-code-asked : (c : tie.Else2) → c .before .before .before .parse2 .result ≡ timeCodeAsked (packet2 c)
-time-code-asked c = rw (header-result (c .before .before .before .before .before)) at (c .before .before .before .parse2 .ensures)
+abbrev time-code-accepted : tie.After-is-done3 → tie.Else2
+time-code-accepted c = captions-read c .before .before
 
-time-code-kept : (c : tie.Else2) → eqb (timeCodeAsked (packet2 c) .answer .number) 0 ≡ true
-time-code-kept c = rw (time-code-asked c) at (sym (c .before .is-done2 .ensures) ∙ not-false _ (c .if2 .left))
+abbrev services-read : tie.After-is-done4 → tie.After-test-services
+services-read c = c .before .before
 
-time-code-result : (c : tie.Else2) → c .before .before .before .parse2 .result ≡ timeCodeShown (packet2 c)
-time-code-result c = time-code-asked c ∙ time-code-is _ (time-code-kept c)
+abbrev captions-accepted : tie.After-is-done4 → tie.Else3
+captions-accepted c = services-read c .before .before
 
-abbrev packet3 : tie.Else3 → List ℕ
-packet3 c = packet2 (c .before .before .before .before .before)
+abbrev closing-read : tie.After-is-done5 → tie.After-test-closing
+closing-read c = c .before
 
-captions-asked : (c : tie.Else3) → c .before .before .before .test-captions .result ≡ captionsAsked (packet3 c)
-captions-asked c = rw (header-result (c .before .before .before .before .before .before .before .before .before .before), time-code-result (c .before .before .before .before .before)) at (c .before .before .before .test-captions .ensures)
+abbrev services-accepted : tie.After-is-done5 → tie.Else4
+services-accepted c = closing-read c .before .before
 
-captions-kept : (c : tie.Else3) → eqb (captionsAsked (packet3 c) .answer .number) 0 ≡ true
-captions-kept c = rw (captions-asked c) at (sym (c .before .is-done3 .ensures) ∙ not-false _ (c .if3 .left))
+abbrev closing-accepted : tie.After-done → tie.Else5
+closing-accepted c = c .before .before .before
 
-captions-result : (c : tie.Else3) → c .before .before .before .test-captions .result ≡ sized (captionsLength (packet3 c))
-captions-result c = captions-asked c ∙ captions-is _ (captions-kept c)
+-- at each: the packet, what is asked of it, that the part is done, and what it shows
+abbrev packet1 : tie.After-is-done → List ℕ
+packet1 c = now (header-read c .before .before .args .packet)
 
-abbrev packet4 : tie.Else4 → List ℕ
-packet4 c = packet3 (c .before .before .before .before .before)
+header-asked : (c : tie.After-is-done) → header-read c .parse .result ≡ headerRead (packet1 c)
+header-asked c = header-read c .parse .ensures
 
-services-asked : (c : tie.Else4) → c .before .before .before .test-services .result ≡ servicesAsked (packet4 c)
-services-asked c = rw (header-result (c .before .before .before .before .before .before .before .before .before .before .before .before .before .before .before), time-code-result (c .before .before .before .before .before .before .before .before .before .before), captions-result (c .before .before .before .before .before)) at (c .before .before .before .test-services .ensures)
+header-kept : (c : tie.Else1) → eqb (headerRead (packet1 (c .before)) .answer .number) 0 ≡ true
+header-kept c = rw (header-asked (c .before)) at (sym (c .before .is-done .ensures) ∙ not-false _ (c .if1 .left))
 
-services-kept : (c : tie.Else4) → eqb (servicesAsked (packet4 c) .answer .number) 0 ≡ true
-services-kept c = rw (services-asked c) at (sym (c .before .is-done4 .ensures) ∙ not-false _ (c .if4 .left))
+header-result : (c : tie.Else1) → header-read (c .before) .parse .result ≡ headerShown (packet1 (c .before))
+header-result c = header-asked (c .before) ∙ header-is _ (header-kept c)
 
-services-result : (c : tie.Else4) → c .before .before .before .test-services .result ≡ sized (servicesMoved (packet4 c))
-services-result c = services-asked c ∙ services-is _ (services-kept c)
+abbrev packet2 : tie.After-is-done2 → List ℕ
+packet2 c = packet1 (header-accepted c .before)
+
+time-code-asked : (c : tie.After-is-done2) → time-code-read c .parse2 .result ≡ timeCodeAsked (packet2 c)
+time-code-asked c =
+    time-code-read c .parse2 .ensures ∙ time-code-asked-so (packet2 c) (header-result (header-accepted c))
+
+time-code-kept : (c : tie.Else2) → eqb (timeCodeAsked (packet2 (c .before)) .answer .number) 0 ≡ true
+time-code-kept c =
+    rw (time-code-asked (c .before)) at (sym (c .before .is-done2 .ensures) ∙ not-false _ (c .if2 .left))
+
+time-code-result : (c : tie.Else2) → time-code-read (c .before) .parse2 .result ≡ timeCodeShown (packet2 (c .before))
+time-code-result c = time-code-asked (c .before) ∙ time-code-is _ (time-code-kept c)
+
+time-code-size : (c : tie.Else2)
+    → time-code-read (c .before) .parse2 .result .size ≡ sizeWhen (flagsIn (packet2 (c .before)) .«time_code») 5
+time-code-size c = ap (λ (r : TimeCodeSection). r .size) (time-code-result c)
+
+abbrev packet3 : tie.After-is-done3 → List ℕ
+packet3 c = packet2 (time-code-accepted c .before)
+
+captions-asked : (c : tie.After-is-done3) → captions-read c .test-captions .result ≡ captionsAsked (packet3 c)
+captions-asked c =
+    let time-code = time-code-accepted c in
+    let header = header-accepted (time-code .before) in
+    captions-read c .test-captions .ensures
+    ∙ captions-asked-so (packet3 c) (header-result header) (time-code-result time-code)
+
+captions-kept : (c : tie.Else3) → eqb (captionsAsked (packet3 (c .before)) .answer .number) 0 ≡ true
+captions-kept c = rw (captions-asked (c .before)) at (sym (c .before .is-done3 .ensures) ∙ not-false _ (c .if3 .left))
+
+captions-result : (c : tie.Else3)
+    → captions-read (c .before) .test-captions .result ≡ sized (captionsLength (packet3 (c .before)))
+captions-result c = captions-asked (c .before) ∙ captions-is _ (captions-kept c)
+
+captions-size : (c : tie.Else3)
+    → captions-read (c .before) .test-captions .result .size ≡ captionsLength (packet3 (c .before))
+captions-size c = ap (λ (r : Tested). r .size) (captions-result c)
+
+abbrev packet4 : tie.After-is-done4 → List ℕ
+packet4 c = packet3 (captions-accepted c .before)
+
+services-asked : (c : tie.After-is-done4) → services-read c .test-services .result ≡ servicesAsked (packet4 c)
+services-asked c =
+    let captions = captions-accepted c in
+    let time-code = time-code-accepted (captions .before) in
+    let header = header-accepted (time-code .before) in
+    services-read c .test-services .ensures
+    ∙ services-asked-so (packet4 c) (header-result header) (time-code-result time-code) (captions-result captions)
+
+services-kept : (c : tie.Else4) → eqb (servicesAsked (packet4 (c .before)) .answer .number) 0 ≡ true
+services-kept c = rw (services-asked (c .before)) at (sym (c .before .is-done4 .ensures) ∙ not-false _ (c .if4 .left))
+
+services-result : (c : tie.Else4)
+    → services-read (c .before) .test-services .result ≡ sized (servicesMoved (packet4 (c .before)))
+services-result c = services-asked (c .before) ∙ services-is _ (services-kept c)
+
+services-size : (c : tie.Else4)
+    → services-read (c .before) .test-services .result .size ≡ servicesMoved (packet4 (c .before))
+services-size c = ap (λ (r : Tested). r .size) (services-result c)
+
+abbrev packet5 : tie.After-is-done5 → List ℕ
+packet5 c = packet4 (services-accepted c .before)
+
+closing-asked : (c : tie.After-is-done5) → closing-read c .test-closing .result ≡ closingAsked (packet5 c)
+closing-asked c =
+    let services = services-accepted c in
+    let captions = captions-accepted (services .before) in
+    let time-code = time-code-accepted (captions .before) in
+    let header = header-accepted (time-code .before) in
+    closing-read c .test-closing .ensures
+    ∙ closing-asked-so (packet5 c) (header-result header) (time-code-result time-code)
+    (captions-result captions) (services-result services)
 
 parse-requires : tie.Need-parse-requires
 parse-requires c κs = search needs
@@ -74,7 +179,7 @@ refused-requires c κs = search needs
 
 returns : tie.Need-returns
 returns c =
-    let e = c .before .before .before .before .parse .ensures in
+    let e = header-asked (c .before .before) in
     let wrong = sym (c .before .before .is-done .ensures) ∙ not-true _ (c .before .if1 .taken) in
     c .refused .ensures ∙ rw e (header-refused _ (rw e at wrong))
 
@@ -92,16 +197,16 @@ refused-requires-2 c κs = search needs
 
 returns-2 : tie.Need-returns-2
 returns-2 c =
-    let s = c .before .before .before .before .before .before in
-    let e = rw (header-result s) at (c .before .before .before .before .parse2 .ensures) in
+    let header = header-accepted (c .before .before) in
+    let e = time-code-asked (c .before .before) in
     let wrong = sym (c .before .before .is-done2 .ensures) ∙ not-true _ (c .before .if2 .taken) in
-    c .refused2 .ensures ∙ rw e (time-code-refused _ (header-kept s) (rw e at wrong))
+    c .refused2 .ensures ∙ rw e (time-code-refused _ (header-kept header) (rw e at wrong))
 
 add-captions-at : tie.Need-add-captions-at
-add-captions-at c = rw (time-code-result (c .before)) (omega (arith, captions-near (packet2 (c .before))))
+add-captions-at c = omega (arith, captions-near (packet2 (c .before .before)), time-code-size (c .before))
 
 cast-test-captions : tie.Need-cast-test-captions
-cast-test-captions c = rw (time-code-result (c .before)) (omega (arith, captions-near (packet2 (c .before))))
+cast-test-captions c = omega (arith, captions-near (packet2 (c .before .before)), time-code-size (c .before))
 
 test-captions-requires : tie.Need-test-captions-requires
 test-captions-requires c κs = search needs
@@ -114,17 +219,29 @@ refused-requires-3 c κs = search needs
 
 returns-3 : tie.Need-returns-3
 returns-3 c =
-    let t = c .before .before .before .before .before .before in
-    let s = t .before .before .before .before .before in
-    let e = rw (header-result s, time-code-result t) at (c .before .before .before .before .test-captions .ensures) in
+    let time-code = time-code-accepted (c .before .before) in
+    let header = header-accepted (time-code .before) in
+    let e = captions-asked (c .before .before) in
     let wrong = sym (c .before .before .is-done3 .ensures) ∙ not-true _ (c .before .if3 .taken) in
-    c .refused3 .ensures ∙ rw e (captions-refused _ (header-kept s) (time-code-kept t) (rw e at wrong))
+    c .refused3 .ensures ∙ rw e (captions-refused _ (header-kept header) (time-code-kept time-code) (rw e at wrong))
 
 add-services-at : tie.Need-add-services-at
-add-services-at c = rw (time-code-result (c .before .before .before .before .before .before), captions-result (c .before)) (omega (arith, services-near (packet3 (c .before))))
+add-services-at c =
+    omega (
+      arith,
+      services-near (packet3 (c .before .before)),
+      time-code-size (time-code-accepted (c .before .before)),
+      captions-size (c .before),
+    )
 
 cast-test-services : tie.Need-cast-test-services
-cast-test-services c = rw (time-code-result (c .before .before .before .before .before .before), captions-result (c .before)) (omega (arith, services-near (packet3 (c .before))))
+cast-test-services c =
+    omega (
+      arith,
+      services-near (packet3 (c .before .before)),
+      time-code-size (time-code-accepted (c .before .before)),
+      captions-size (c .before),
+    )
 
 test-services-requires : tie.Need-test-services-requires
 test-services-requires c κs = search needs
@@ -137,18 +254,34 @@ refused-requires-4 c κs = search needs
 
 returns-4 : tie.Need-returns-4
 returns-4 c =
-    let u = c .before .before .before .before .before .before in
-    let t = u .before .before .before .before .before in
-    let s = t .before .before .before .before .before in
-    let e = rw (header-result s, time-code-result t, captions-result u) at (c .before .before .before .before .test-services .ensures) in
+    let captions = captions-accepted (c .before .before) in
+    let time-code = time-code-accepted (captions .before) in
+    let header = header-accepted (time-code .before) in
+    let e = services-asked (c .before .before) in
     let wrong = sym (c .before .before .is-done4 .ensures) ∙ not-true _ (c .before .if4 .taken) in
-    c .refused4 .ensures ∙ rw e (services-refused _ (header-kept s) (time-code-kept t) (captions-kept u) (rw e at wrong))
+    c .refused4 .ensures
+    ∙ rw e
+    (services-refused _ (header-kept header) (time-code-kept time-code) (captions-kept captions) (rw e at wrong))
 
 add-closing-at : tie.Need-add-closing-at
-add-closing-at c = rw (time-code-result (c .before .before .before .before .before .before .before .before .before .before .before), captions-result (c .before .before .before .before .before .before), services-result (c .before)) (omega (arith, closing-near (packet4 (c .before))))
+add-closing-at c =
+    omega (
+      arith,
+      closing-near (packet4 (c .before .before)),
+      time-code-size (time-code-accepted (captions-accepted (c .before .before) .before)),
+      captions-size (captions-accepted (c .before .before)),
+      services-size (c .before),
+    )
 
 cast-test-closing : tie.Need-cast-test-closing
-cast-test-closing c = rw (time-code-result (c .before .before .before .before .before .before .before .before .before .before .before), captions-result (c .before .before .before .before .before .before), services-result (c .before)) (omega (arith, closing-near (packet4 (c .before))))
+cast-test-closing c =
+    omega (
+      arith,
+      closing-near (packet4 (c .before .before)),
+      time-code-size (time-code-accepted (captions-accepted (c .before .before) .before)),
+      captions-size (captions-accepted (c .before .before)),
+      services-size (c .before),
+    )
 
 test-closing-requires : tie.Need-test-closing-requires
 test-closing-requires c κs = search needs
@@ -161,41 +294,47 @@ refused-requires-5 c κs = search needs
 
 returns-5 : tie.Need-returns-5
 returns-5 c =
-    let v = c .before .before .before .before .before in
-    let u = v .before .before .before .before .before in
-    let t = u .before .before .before .before .before in
-    let s = t .before .before .before .before .before in
-    let e = rw (header-result s, time-code-result t, captions-result u, services-result v) at (c .before .before .before .test-closing .ensures) in
+    let services = services-accepted (c .before .before) in
+    let captions = captions-accepted (services .before) in
+    let time-code = time-code-accepted (captions .before) in
+    let header = header-accepted (time-code .before) in
+    let e = closing-asked (c .before .before) in
     let wrong = sym (c .before .before .is-done5 .ensures) ∙ not-true _ (c .before .if5 .taken) in
-    c .refused5 .ensures ∙ ap refusedChecked e ∙ closing-refused _ (header-kept s) (time-code-kept t) (captions-kept u) (services-kept v) (rw e at wrong)
+    c .refused5 .ensures
+    ∙ ap refusedChecked e
+    ∙ closing-refused _ (header-kept header) (time-code-kept time-code)
+    (captions-kept captions) (services-kept services) (rw e at wrong)
 
 done-requires : tie.Need-done-requires
 done-requires c κs = search needs
 
 cast-t19 : tie.Need-cast-t19
 cast-t19 c =
-    let t = c .before .before .before .before .before .before .before .before .before .before .before .before .before .before .before .before .before in
-    rw (time-code-result t) (omega (arith, captions-near (packet2 t)))
+    let services = services-accepted (closing-accepted c .before) in
+    let captions = captions-accepted (services .before) in
+    let time-code = time-code-accepted (captions .before) in
+    omega (arith, captions-near (packet2 (time-code .before)), time-code-size time-code)
 
 cast-t21 : tie.Need-cast-t21
 cast-t21 c =
-    let u = c .before .before .before .before .before .before .before .before .before .before .before .before in
-    rw (time-code-result (u .before .before .before .before .before), captions-result u) (omega (arith, services-near (packet3 u)))
+    let services = services-accepted (closing-accepted c .before) in
+    let captions = captions-accepted (services .before) in
+    let time-code = time-code-accepted (captions .before) in
+    omega (arith, services-near (packet3 (captions .before)), time-code-size time-code, captions-size captions)
 
 returns-6 : tie.Need-returns-6
 returns-6 c =
-    let v = c .before .before .before .before .before .before .before in
-    let u = v .before .before .before .before .before in
-    let t = u .before .before .before .before .before in
-    let s = t .before .before .before .before .before in
-    let h = header-result s in
-    let time = time-code-result t in
-    let d = captions-result u in
-    let i = services-result v in
-    let e = rw (h, time, d, i) at (c .before .before .before .before .before .test-closing .ensures) in
-    let right = rw e at (sym (c .before .before .before .before .is-done5 .ensures) ∙ not-false _ (c .before .before .before .if5 .left)) in
-    let whole = packet-whole _ (header-kept s) (time-code-kept t) (captions-kept u) (services-kept v) right in
-    rw (c .done .ensures, h, time, d) whole
+    let closing = closing-accepted c in
+    let services = services-accepted (closing .before) in
+    let captions = captions-accepted (services .before) in
+    let time-code = time-code-accepted (captions .before) in
+    let header = header-accepted (time-code .before) in
+    let said = sym (closing .before .is-done5 .ensures) ∙ not-false _ (closing .if5 .left) in
+    let right = rw (closing-asked (closing .before)) at said in
+    all-shown-so (packet5 (closing .before)) (header-result header) (time-code-result time-code)
+    (captions-result captions) (c .done .ensures)
+    ∙ packet-whole _ (header-kept header) (time-code-kept time-code)
+    (captions-kept captions) (services-kept services) right
 
 pub parse-spec : {M : Type 1} → statement M
 parse-spec =

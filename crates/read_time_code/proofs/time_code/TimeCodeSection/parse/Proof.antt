@@ -8,6 +8,20 @@ use borrow.Author.Needs.{needs}
 use Rattle.read_time_code.proofs.time_code.TimeCodeSection.parse.Statement.{statement}
 use Rattle.read_time_code.proofs.time_code.TimeCodeSection.parse.Tie as tie
 
+-- the stations: what has been found of the section, each reached through the one behind it;
+-- `rw` sees through those that it lists
+abbrev section-there : tie.After-shared-slice-known2 → tie.Else1
+section-there c = c .before .before
+
+abbrev bytes-read : tie.After-is-done → tie.After-parse
+bytes-read c = c .before .before
+
+abbrev id-right : tie.After-is-done → tie.Else3
+id-right c = bytes-read c .before .before
+
+abbrev bytes-right : tie.After-done2 → tie.Else4
+bytes-right c = c .before .before
+
 done-requires : tie.Need-done-requires
 done-requires c κs = search needs
 
@@ -15,7 +29,9 @@ without-requires : tie.Need-without-requires
 without-requires c κs = search needs
 
 returns : tie.Need-returns
-returns c = c .without .ensures ∙ rw (c .before .done .ensures) (not-there _ _ _ (not-true _ (c .before .before .if1 .taken)))
+returns c =
+    c .without .ensures
+    ∙ rw (c .before .done .ensures) (not-there _ _ _ (not-true _ (c .before .before .if1 .taken)))
 
 add-if2 : tie.Need-add-if2
 add-if2 c = search needs
@@ -30,7 +46,10 @@ without-requires-2 : tie.Need-without-requires-2
 without-requires-2 c κs = search needs
 
 returns-2 : tie.Need-returns-2
-returns-2 c = c .without2 .ensures ∙ rw (c .before .length-mismatch .ensures) (too-short _ _ _ (not-false _ (c .before .before .before .if1 .left)) (omega arith))
+returns-2 c =
+    c .without2 .ensures
+    ∙ rw (c .before .length-mismatch .ensures)
+    (too-short _ _ _ (not-false _ (c .before .before .before .if1 .left)) (omega arith))
 
 shared-slice-read-if3 : tie.Need-shared-slice-read-if3
 shared-slice-read-if3 c = search needs
@@ -39,7 +58,9 @@ without-requires-3 : tie.Need-without-requires-3
 without-requires-3 c κs = search needs
 
 returns-3 : tie.Need-returns-3
-returns-3 c = c .without3 .ensures ∙ other-id _ _ _ (not-false _ (c .before .before .before .before .if1 .left)) (omega arith) (λ h. omega arith)
+returns-3 c =
+    c .without3 .ensures
+    ∙ other-id _ _ _ (not-false _ (section-there (c .before .before) .if1 .left)) (omega arith) (λ h. omega arith)
 
 four-behind-requires : tie.Need-four-behind-requires
 four-behind-requires c κs = search needs
@@ -55,18 +76,22 @@ without-requires-4 c κs = search needs
 
 returns-4 : tie.Need-returns-4
 returns-4 c =
-    let e = rw (c .before .before .before .before .before .four-behind .ensures) at (c .before .before .before .before .parse .ensures) in
+    let four = bytes-read (c .before .before) .before .four-behind in
+    let e = rw (bytes-read, four .ensures) at (bytes-read (c .before .before) .parse .ensures) in
     let wrong = rw e at (sym (c .before .before .is-done .ensures) ∙ not-true _ (c .before .if4 .taken)) in
-    c .without4 .ensures ∙ rw e (bytes-wrong _ _ _ (not-false _ (c .before .before .before .before .before .before .before .before .before .if1 .left)) (omega arith) (omega arith) wrong)
+    let there = section-there (id-right (c .before .before) .before) .if1 .left in
+    c .without4 .ensures ∙ rw e (bytes-wrong _ _ _ (not-false _ there) (omega arith) (omega arith) wrong)
 
 done-requires-2 : tie.Need-done-requires-2
 done-requires-2 c κs = search needs
 
 returns-5 : tie.Need-returns-5
 returns-5 c =
-    let e = rw (c .before .before .before .before .before .before .four-behind .ensures) at (c .before .before .before .before .before .parse .ensures) in
-    let right = rw e at (sym (c .before .before .before .is-done .ensures) ∙ not-false _ (c .before .before .if4 .left)) in
-    rw (c .done2 .ensures, e) (time-code-whole _ _ _ (not-false _ (c .before .before .before .before .before .before .before .before .before .before .if1 .left)) (omega arith) (omega arith) right)
+    let four = bytes-read (bytes-right c .before) .before .four-behind in
+    let e = rw (bytes-read, bytes-right, four .ensures) at (bytes-read (bytes-right c .before) .parse .ensures) in
+    let right = rw e at (sym (bytes-right c .before .is-done .ensures) ∙ not-false _ (bytes-right c .if4 .left)) in
+    let there = section-there (id-right (bytes-right c .before) .before) .if1 .left in
+    rw (c .done2 .ensures, e) (time-code-whole _ _ _ (not-false _ there) (omega arith) (omega arith) right)
 
 pub parse-spec : {M : Type 1} → statement M
 parse-spec =
