@@ -1,8 +1,10 @@
--- What a digest comes to: of a byte, a flag, a number, bytes, and entries.
+-- What a digest comes to: of a byte, a flag, a number, bytes, entries, and a list.
 use mathlib.Core.Bool.{Bool, cond}
 use mathlib.Core.List.{List, [], _∷_}
 use Prim.Native.Nat.{ℕ, zero, suc, _+_, _*_, _/_, _%_}
+use lib.ListN.{take}
 use Rattle.basis.specs.Bytes.{byte}
+use Rattle.service_list.specs.declared.list.ServiceInfo.{ServiceInfo}
 use Rattle.service_entry.specs.declared.entry.ServiceEntry.{ServiceEntry}
 use Rattle.service_entry.specs.declared.service.FieldOrService.{FieldOrService}
 use Rattle.service_entry.specs.declared.service.FieldOrService.the-variants.{Field, Service}
@@ -38,6 +40,12 @@ entryFed digest e =
 abbrev pub entriesFed : ℕ → List ServiceEntry → ℕ
 entriesFed digest [] = digest
 entriesFed digest (e ∷ es) = entriesFed (entryFed digest e) es
+
+-- a list: its flags and the low byte of its count, then so many of its places
+unfoldable pub listFed : ℕ → ServiceInfo → ℕ → ℕ
+listFed digest l places =
+    entriesFed (fed (flagFed (flagFed (flagFed digest (l .start)) (l .change)) (l .complete)) (l .count % 256))
+    (take places (l .services))
 
 -- a digest from 0 on, fed so many times: step takes it and how often it was fed before
 unfoldable pub swept : (ℕ → ℕ → ℕ) → ℕ → ℕ

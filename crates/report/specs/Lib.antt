@@ -1,2 +1,3 @@
 pub mod Digest
 pub mod Made
+pub mod Recipe

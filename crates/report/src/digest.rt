@@ -4,6 +4,7 @@ ghost use lib.ListN.{take};
 ghost use Rattle.report.specs.Digest as Digest;
 use service_entry::FieldOrService;
 use service_entry::ServiceEntry;
+use service_list::ServiceInfo;
 
 pub fn feed(digest: u64, byte: u8) -> u64
     ensures { λ r. ⌜ r ≡ Digest.fed digest byte ⌝ }
@@ -34,8 +35,20 @@ pub fn all_fed(first: u64, bytes: &[u8]) -> u64
     digest
 }
 
+// A list's flags and its count, then so many of its places.
+pub fn list_fed(digest: u64, list: ServiceInfo, places: usize) -> u64
+    ensures { λ r. ⌜ r ≡ Digest.listFed digest list places ⌝ }
+{
+    let start = flag_fed(digest, list.start);
+    let change = flag_fed(start, list.change);
+    let complete = flag_fed(change, list.complete);
+    let count = feed(complete, (list.count % 256) as u8);
+    let services = list.services;
+    entries_fed(count, services, places)
+}
+
 // So many of the entries. A count over 15 ends at the last place.
-pub fn entries_fed(first: u64, services: [ServiceEntry; 15], count: usize) -> u64
+fn entries_fed(first: u64, services: [ServiceEntry; 15], count: usize) -> u64
     ensures { λ r. ⌜ r ≡ Digest.entriesFed first (take count services) ⌝ }
 {
     let mut digest = first;

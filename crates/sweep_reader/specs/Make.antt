@@ -1,5 +1,5 @@
 -- A packet that is accepted, made from its recipe, part by part.
-use mathlib.Core.Bool.{cond}
+use mathlib.Core.Bool.{Bool, cond}
 use mathlib.Core.List.{List, [], _∷_, _++_}
 use Prim.Native.Nat.{ℕ, zero, suc, _+_, _*_, _/_, _%_}
 use lib.Dec.{eqb}
@@ -7,21 +7,18 @@ use lib.ListN.{length, replicate, set, take}
 use Rattle.values.specs.Layout.{timeCodeId, captionsId, servicesId, footerId}
 use Rattle.values.specs.Sequence.{sequenceBytes}
 use Rattle.report.specs.Made.{made}
+use Rattle.report.specs.Recipe.{madeKind, madeNumber}
 use Rattle.sweep_reader.specs.Mend.{packetMended}
 use Rattle.sweep_reader.specs.declared.recipes.Recipe.{Recipe}
 
--- what the header byte of service k names; every third is a field
-unfoldable pub numberMade : ℕ → ℕ
-numberMade k = cond (eqb (k % 3) 2) 0 ((k * 17 + 5) % 63 + 1)
-
--- fields 1 and 2 in turn
-unfoldable pub kindMade : ℕ → ℕ
-kindMade k = cond (eqb (k % 3) 2) (0x7E + k / 3 % 2) (0xC0 + numberMade k)
+-- every third service is a field
+abbrev pub fieldMade : ℕ → Bool
+fieldMade k = eqb (k % 3) 2
 
 -- the seven bytes of service k in a packet; all have flags, which a field drops
 abbrev pub entryMade : ℕ → ℕ → List ℕ
 entryMade packet k =
-    (0x80 + numberMade k) ∷ (0x61 + k % 16) ∷ (0x61 + packet % 16) ∷ 0x7A ∷ kindMade k ∷ (k % 4 * 0x40 + 0x3F) ∷ 0xFF ∷ []
+    (0x80 + madeNumber (fieldMade k) k) ∷ (0x61 + k % 16) ∷ (0x61 + packet % 16) ∷ 0x7A ∷ madeKind (fieldMade k) (k / 3) k ∷ (k % 4 * 0x40 + 0x3F) ∷ 0xFF ∷ []
 
 unfoldable pub entriesMade : ℕ → ℕ → List ℕ
 entriesMade packet zero = []

@@ -1,7 +1,6 @@
 -- What a reader shows, fed to a digest. What is absent is fed too.
-use Prim.Native.Nat.{ℕ, _/_, _%_}
-use lib.ListN.{take}
-use Rattle.report.specs.Digest.{fed, flagFed, twoFed, entriesFed}
+use Prim.Native.Nat.{ℕ, _/_}
+use Rattle.report.specs.Digest.{fed, flagFed, listFed, twoFed}
 use Rattle.service_entries.specs.Entries.{places}
 use Rattle.reader.specs.declared.parser.CDPParser.{CDPParser}
 use Rattle.service_list.specs.declared.list.MaybeServiceInfo.{MaybeServiceInfo}
@@ -24,13 +23,9 @@ timeCodeFed digest m =
     (t .«drop_frame»)
 
 -- a list with all its places: those behind its count have to be fillers
-unfoldable pub listFed : ℕ → MaybeServiceInfo → ℕ
-listFed digest m =
-    let l = m .«service_info» in
-    entriesFed
-    (fed (flagFed (flagFed (flagFed (flagFed digest (m .present)) (l .start)) (l .change)) (l .complete)) (l .count % 256))
-    (take places (l .services))
+unfoldable pub placesFed : ℕ → MaybeServiceInfo → ℕ
+placesFed digest m = listFed (flagFed digest (m .present)) (m .«service_info») places
 
 unfoldable pub readerFed : ℕ → CDPParser → ℕ
 readerFed digest s =
-    listFed (twoFed (timeCodeFed (rateFed digest (s .framerate)) (s .«time_code»)) (s .sequence)) (s .«service_info»)
+    placesFed (twoFed (timeCodeFed (rateFed digest (s .framerate)) (s .«time_code»)) (s .sequence)) (s .«service_info»)

@@ -4,7 +4,6 @@ mod bytes;
 mod change;
 mod entry;
 mod lines;
-mod list;
 mod make;
 mod mend;
 mod print;

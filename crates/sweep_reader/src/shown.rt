@@ -1,11 +1,13 @@
 // What a reader shows, fed to a digest. What is absent is fed too, since it has to be zeros.
 ghost use mathlib.Core.Path.{_≡_};
 ghost use Rattle.sweep_reader.specs.Shown as Shown;
-use crate::list;
 use reader::CDPParser;
 use report::feed;
 use report::flag_fed;
+use report::list_fed;
 use report::two_fed;
+use service_list::MaybeServiceInfo;
+use service_list::ServiceInfo;
 use values::MaybeFramerate;
 use values_time::MaybeTimeCode;
 
@@ -18,7 +20,7 @@ pub fn reader(digest: u64, shown: CDPParser) -> u64
     let rate = rate(digest, framerate);
     let time = time(rate, time_code);
     let sequence = two_fed(time, shown.sequence as u64);
-    list::maybe(sequence, service_info)
+    list(sequence, service_info)
 }
 
 fn rate(digest: u64, shown: MaybeFramerate) -> u64
@@ -47,4 +49,12 @@ fn time(digest: u64, shown: MaybeTimeCode) -> u64
     let seconds = feed(minutes, time.seconds);
     let frames = feed(seconds, time.frames);
     flag_fed(flag_fed(frames, time.field), time.drop_frame)
+}
+
+// A list with all its places: those behind its count have to be fillers.
+fn list(digest: u64, shown: MaybeServiceInfo) -> u64
+    ensures { λ r. ⌜ r ≡ Shown.placesFed digest shown ⌝ }
+{
+    let list = shown.service_info;
+    list_fed(flag_fed(digest, shown.present), list, ServiceInfo::PLACES)
 }

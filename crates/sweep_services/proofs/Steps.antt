@@ -11,7 +11,8 @@ use Rattle.service_entry.specs.Entry.{entryRead}
 use Rattle.service_entry.specs.declared.entry.ServiceEntryRead.{ServiceEntryRead}
 use Rattle.service_list.specs.declared.section.ServiceInfoRead.{ServiceInfoRead}
 use Rattle.sweep_services.specs.Good.{entryByte, entryStart, goodByte, goodSize, secondByte}
-use Rattle.sweep_services.specs.Sweep.{lowBytesFed, englishEntry, entryStep, listFed, sectionFed}
+use Rattle.report.specs.Digest.{listFed}
+use Rattle.sweep_services.specs.Sweep.{lowBytesFed, englishEntry, entryStep, sectionFed}
 
 pub entry-at : (k place n : ℕ) → place ≡ n → getD (entryStart k) n 0xFF ≡ entryByte k place
 unfolding entryByte
@@ -56,6 +57,6 @@ module _ (digest : ℕ) (r : ServiceInfoRead) where
   section-refused h = rw h
 
   pub section-done : eqb (r .answer .number) 0 ≡ true
-      → listFed (lowBytesFed digest (r .answer)) (r .list) ≡ sectionFed digest r
+      → listFed (lowBytesFed digest (r .answer)) (r .list) (r .list .count) ≡ sectionFed digest r
   unfolding sectionFed
   section-done h = rw h

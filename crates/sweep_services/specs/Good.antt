@@ -1,10 +1,11 @@
 -- Sections that the reader takes, made from their count of entries.
-use mathlib.Core.Bool.{cond}
+use mathlib.Core.Bool.{Bool, cond}
 use mathlib.Core.List.{List, [], _∷_}
 use Prim.Native.Nat.{ℕ, _+_, _-_, _*_, _/_, _%_}
 use lib.Dec.{eqb, ltb}
 use lib.ListN.{getD}
 use Rattle.report.specs.Made.{made}
+use Rattle.report.specs.Recipe.{madeKind, madeNumber}
 use Rattle.values.specs.Layout.{servicesId, sectionLength}
 
 -- how many bytes the section of a count has
@@ -15,22 +16,18 @@ goodSize count = sectionLength (count % 16)
 abbrev pub secondByte : ℕ → ℕ
 secondByte count = 0x80 + count % 8 * 16 + count % 16
 
--- what the header byte of entry k names; every fourth entry is a field
-unfoldable pub numberAt : ℕ → ℕ
-numberAt k = cond (eqb (k % 4) 3) 0 ((k % 16 * 17 + 5) % 63 + 1)
-
--- fields 1 and 2 in turn
-unfoldable pub kindAt : ℕ → ℕ
-kindAt k = cond (eqb (k % 4) 3) (0x7E + k / 4 % 2) (0xC0 + numberAt k)
+-- every fourth entry is a field
+abbrev pub goodField : ℕ → Bool
+goodField k = eqb (k % 4) 3
 
 -- all have flags, which a field drops
-abbrev pub flagsAt : ℕ → ℕ
-flagsAt k = k % 2 * 0x80 + k % 3 % 2 * 0x40 + 0x3F
+abbrev pub goodFlags : ℕ → ℕ
+goodFlags k = k % 2 * 0x80 + k % 3 % 2 * 0x40 + 0x3F
 
 -- the bytes of entry k before its last, which is FF
 abbrev pub entryStart : ℕ → List ℕ
 entryStart k =
-    (numberAt k + 0x80) ∷ (0x61 + k % 16) ∷ (0x71 + k % 16) ∷ (0x81 + k % 16) ∷ kindAt k ∷ flagsAt k ∷ []
+    (madeNumber (goodField k) k + 0x80) ∷ (0x61 + k % 16) ∷ (0x71 + k % 16) ∷ (0x81 + k % 16) ∷ madeKind (goodField k) (k / 4) k ∷ goodFlags k ∷ []
 
 unfoldable pub entryByte : ℕ → ℕ → ℕ
 entryByte k place = getD (entryStart k) place 0xFF

@@ -4,13 +4,12 @@ use mathlib.Core.List.{List, [], _∷_}
 use Prim.Native.Nat.{ℕ, _+_, _/_, _%_}
 use lib.Dec.{eqb}
 use lib.ListN.{set, take}
-use Rattle.report.specs.Digest.{fed, flagFed, entryFed, entriesFed, swept}
+use Rattle.report.specs.Digest.{fed, entryFed, listFed, swept}
 use Rattle.service_entry.specs.Entry.{entryRead}
 use Rattle.service_list.specs.Section.{sectionRead}
 use Rattle.sweep_services.specs.Good.{goodBytes, goodSize}
 use Rattle.basis.specs.declared.answer.Answer.{Answer}
 use Rattle.service_entry.specs.declared.entry.ServiceEntryRead.{ServiceEntryRead}
-use Rattle.service_list.specs.declared.list.ServiceInfo.{ServiceInfo}
 use Rattle.service_list.specs.declared.section.ServiceInfoRead.{ServiceInfoRead}
 use Rattle.sweep_services.specs.declared.digest.Block.{Block}
 use Rattle.sweep_services.specs.declared.digest.Block.the-variants.{Entries, Headers, Place, Sizes}
@@ -25,17 +24,11 @@ readFed digest r =
 abbrev pub lowBytesFed : ℕ → Answer → ℕ
 lowBytesFed digest a = fed (fed (fed digest (a .number)) (a .first % 256)) (a .second % 256)
 
--- the flags and the count, then as many entries; no list has more than its places
-unfoldable pub listFed : ℕ → ServiceInfo → ℕ
-listFed digest l =
-    entriesFed (fed (flagFed (flagFed (flagFed digest (l .start)) (l .change)) (l .complete)) (l .count % 256))
-    (take (l .count) (l .services))
-
 -- what reading a section gives: the answer and, where it is 0, the list
 unfoldable pub sectionFed : ℕ → ServiceInfoRead → ℕ
 sectionFed digest r =
     let answered = lowBytesFed digest (r .answer) in
-    cond (eqb (r .answer .number) 0) (listFed answered (r .list)) answered
+    cond (eqb (r .answer .number) 0) (listFed answered (r .list) (r .list .count)) answered
 
 -- an entry in English with these three bytes behind the language
 abbrev pub englishEntry : ℕ → ℕ → List ℕ

@@ -1,13 +1,15 @@
 // Sections that the reader takes, byte by byte, made from their count of entries.
 ghost use mathlib.Core.Path.{_≡_};
-ghost use Prim.Native.Nat.{_≤_};
 ghost use Rattle.sweep_services.specs.Good as Good;
+use report::made_kind;
+use report::made_number;
+use values::Packet;
 
 // How many bytes the section of a count has.
 pub fn size(count: u64) -> u64
     ensures { λ r. ⌜ r ≡ Good.goodSize count ⌝ }
 {
-    2 + 7 * (count % 16)
+    Packet::SECTION_HEAD_LEN as u64 + Packet::SECTION_ENTRY_LEN as u64 * (count % 16)
 }
 
 // What stands at a place; behind the section, zeros.
@@ -30,42 +32,26 @@ fn entry_byte(k: u64, place: u64) -> u8
     ensures { λ r. ⌜ r ≡ Good.entryByte k place ⌝ }
 {
     match place {
-        0 => number(k) + 0x80,
+        0 => made_number(is_field(k), k) + 0x80,
         1 => (0x61 + k % 16) as u8,
         2 => (0x71 + k % 16) as u8,
         3 => (0x81 + k % 16) as u8,
-        4 => kind(k),
+        4 => made_kind(is_field(k), k / 4, k),
         5 => flags(k),
         _ => 0xFF,
     }
 }
 
-// Every fourth entry is a field, 1 and 2 in turn.
-fn kind(k: u64) -> u8
-    ensures { λ r. ⌜ r ≡ Good.kindAt k ⌝ }
+// Every fourth entry is a field.
+fn is_field(k: u64) -> bool
+    ensures { λ r. ⌜ r ≡ Good.goodField k ⌝ }
 {
-    if k % 4 == 3 {
-        (0x7E + k / 4 % 2) as u8
-    } else {
-        0xC0 + number(k)
-    }
-}
-
-// What the header byte names. The second clause follows from the first; callers' sums fit by it.
-fn number(k: u64) -> u8
-    ensures { λ r. ⌜ r ≡ Good.numberAt k ⌝ }
-    ensures { λ r. ⌜ r ≤ 63 ⌝ }
-{
-    if k % 4 == 3 {
-        0
-    } else {
-        ((k % 16 * 17 + 5) % 63 + 1) as u8
-    }
+    k % 4 == 3
 }
 
 // All have flags, which a field drops.
 fn flags(k: u64) -> u8
-    ensures { λ r. ⌜ r ≡ Good.flagsAt k ⌝ }
+    ensures { λ r. ⌜ r ≡ Good.goodFlags k ⌝ }
 {
     (k % 2 * 0x80 + k % 3 % 2 * 0x40 + 0x3F) as u8
 }

@@ -6,10 +6,9 @@ ghost use Rattle.service_list.specs.Section.{sectionRead};
 ghost use Rattle.sweep_services.specs.Good.{goodBytes};
 ghost use Rattle.sweep_services.specs.Sweep as Sweep;
 use crate::good;
-use report::entries_fed;
 use report::entry_fed;
 use report::feed;
-use report::flag_fed;
+use report::list_fed;
 use service_list::ServiceEntry;
 use service_list::ServiceInfo;
 
@@ -91,16 +90,5 @@ fn section(digest: u64, bytes: &[u8]) -> u64
         return second;
     }
     let list = read.list;
-    list_fed(second, list)
-}
-
-fn list_fed(digest: u64, list: ServiceInfo) -> u64
-    ensures { λ r. ⌜ r ≡ Sweep.listFed digest list ⌝ }
-{
-    let start = flag_fed(digest, list.start);
-    let change = flag_fed(start, list.change);
-    let complete = flag_fed(change, list.complete);
-    let count = feed(complete, (list.count % 256) as u8);
-    let services = list.services;
-    entries_fed(count, services, list.count)
+    list_fed(second, list, list.count)
 }

@@ -4,30 +4,47 @@ use borrow.Author.Needs.{needs}
 use Rattle.sweep_reader.proofs.entry.bytes.Statement.{statement}
 use Rattle.sweep_reader.proofs.entry.bytes.Tie as tie
 
-number-requires : tie.Need-number-requires
-number-requires c κs = search needs
+is-field-requires : tie.Need-is-field-requires
+is-field-requires c κs = search needs
 
-add-t4 : tie.Need-add-t4
-add-t4 c = search needs
+made-number-requires : tie.Need-made-number-requires
+made-number-requires c κs = search needs
 
-add-t6 : tie.Need-add-t6
-add-t6 c = search needs
+cast-made-kind : tie.Need-cast-made-kind
+cast-made-kind c = search needs
 
-add-t8 : tie.Need-add-t8
-add-t8 c = search needs
+made-kind-requires : tie.Need-made-kind-requires
+made-kind-requires c κs = search needs
 
-kind-requires : tie.Need-kind-requires
-kind-requires c κs = search needs
+add-t7 : tie.Need-add-t7
+add-t7 c = search needs
 
-mul-t11 : tie.Need-mul-t11
-mul-t11 c = search needs
+add-t10 : tie.Need-add-t10
+add-t10 c = search needs
 
 add-t12 : tie.Need-add-t12
 add-t12 c = search needs
 
+mul-t14 : tie.Need-mul-t14
+mul-t14 c = search needs
+
+add-t15 : tie.Need-add-t15
+add-t15 c = search needs
+
 returns : tie.Need-returns
-returns c = rw (c .kind .ensures, c .before .number .ensures .0)
+returns c = rw (c .made-kind .ensures, c .before .made-number .ensures .0, c .before .before .is-field .ensures)
 
 pub bytes-spec : {M : Type 1} → statement M
 bytes-spec =
-    tie.close (tie.spec number-requires add-t4 add-t6 add-t8 kind-requires mul-t11 add-t12 returns)
+    tie.close
+    (tie.spec
+    is-field-requires
+    made-number-requires
+    cast-made-kind
+    made-kind-requires
+    add-t7
+    add-t10
+    add-t12
+    mul-t14
+    add-t15
+    returns)

@@ -18,16 +18,16 @@ cast-two-fed c = search needs
 two-fed-requires : tie.Need-two-fed-requires
 two-fed-requires c κs = search needs
 
-maybe-requires : tie.Need-maybe-requires
-maybe-requires c κs = search needs
+list-requires : tie.Need-list-requires
+list-requires c κs = search needs
 
 returns : tie.Need-returns
 unfolding readerFed
 returns c =
     let s = c .before .before .before in
-    c .maybe .ensures ∙ rw (c .before .two-fed .ensures, s .time .ensures, s .before .rate .ensures)
+    c .list .ensures ∙ rw (c .before .two-fed .ensures, s .time .ensures, s .before .rate .ensures)
 
 pub reader-spec : {M : Type 1} → statement M
 reader-spec =
     tie.close
-    (tie.spec rate-requires time-requires cast-two-fed two-fed-requires maybe-requires returns)
+    (tie.spec rate-requires time-requires cast-two-fed two-fed-requires list-requires returns)

@@ -6,8 +6,11 @@ use borrow.Author.Needs.{needs}
 use Rattle.sweep_services.proofs.good.entry_byte.Statement.{statement}
 use Rattle.sweep_services.proofs.good.entry_byte.Tie as tie
 
-number-requires : tie.Need-number-requires
-number-requires c κs = search needs
+is-field-requires : tie.Need-is-field-requires
+is-field-requires c κs = search needs
+
+made-number-requires : tie.Need-made-number-requires
+made-number-requires c κs = search needs
 
 add-result : tie.Need-add-result
 add-result c = search needs
@@ -30,14 +33,18 @@ add-result-4 c = search needs
 cast-result-3 : tie.Need-cast-result-3
 cast-result-3 c = search needs
 
-kind-requires : tie.Need-kind-requires
-kind-requires c κs = search needs
+is-field-requires-2 : tie.Need-is-field-requires-2
+is-field-requires-2 c κs = search needs
+
+made-kind-requires : tie.Need-made-kind-requires
+made-kind-requires c κs = search needs
 
 flags-requires : tie.Need-flags-requires
 flags-requires c κs = search needs
 
 returns : tie.Need-returns
-returns c = rw (c .number .ensures .0) (entry-at _ _ 0 (c .before .match .keys1))
+returns c =
+    rw (c .made-number .ensures .0, c .before .is-field .ensures) (entry-at _ _ 0 (c .before .before .match .keys1))
 
 returns-2 : tie.Need-returns-2
 returns-2 c = entry-at _ _ 1 (c .match .keys2)
@@ -49,7 +56,8 @@ returns-4 : tie.Need-returns-4
 returns-4 c = entry-at _ _ 3 (c .match .keys4)
 
 returns-5 : tie.Need-returns-5
-returns-5 c = rw (c .kind .ensures) (entry-at _ _ 4 (c .before .match .keys5))
+returns-5 c =
+    rw (c .made-kind .ensures, c .before .is-field2 .ensures) (entry-at _ _ 4 (c .before .before .match .keys5))
 
 returns-6 : tie.Need-returns-6
 returns-6 c = rw (c .flags .ensures) (entry-at _ _ 5 (c .before .match .keys6))
@@ -61,7 +69,8 @@ pub entry-byte-spec : {M : Type 1} → statement M
 entry-byte-spec =
     tie.close
     (tie.spec
-    number-requires
+    is-field-requires
+    made-number-requires
     add-result
     add-result-2
     cast-result
@@ -69,7 +78,8 @@ entry-byte-spec =
     cast-result-2
     add-result-4
     cast-result-3
-    kind-requires
+    is-field-requires-2
+    made-kind-requires
     flags-requires
     returns
     returns-2
