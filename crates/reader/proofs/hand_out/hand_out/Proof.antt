@@ -9,7 +9,8 @@ use borrow.Author.Needs.{needs}
 use Rattle.reader.proofs.hand_out.hand_out.Statement.{statement}
 use Rattle.reader.proofs.hand_out.hand_out.Tie as tie
 
--- the stations: the entry, the section found, and each put, each reached through the one behind it
+-- the stations: the entry, the section found, and each put, each reached through the one behind it;
+-- `rw` sees through those that it lists
 abbrev entry : tie.Else1 → tie.Start
 entry c = c .before .before .before
 

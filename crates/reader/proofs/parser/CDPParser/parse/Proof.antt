@@ -25,7 +25,8 @@ use borrow.Author.Needs.{needs}
 use Rattle.reader.proofs.parser.CDPParser.parse.Statement.{statement}
 use Rattle.reader.proofs.parser.CDPParser.parse.Tie as tie
 
--- the stations: the entry, the packet checked, and its captions handed out, each reached through the one behind it
+-- the stations: the entry, the packet checked, and its captions handed out, each reached through the one behind it;
+-- `rw` sees through those that it lists
 abbrev entry : tie.Else1 → tie.Start
 entry c = c .before .before .before
 
