@@ -15,7 +15,7 @@ use Rattle.basis.specs.Bytes.{byte}
 use Rattle.basis.specs.Check.{Check, check, clear, sizeCheck, verdict}
 use Rattle.basis.specs.Code.{alone, sized}
 use Rattle.basis.specs.Mask.{allSet, xE0}
-use Rattle.values.specs.Layout.{captionsId}
+use Rattle.values.specs.Layout.{captionsId, sectionHeadSize, tripletSize}
 use Rattle.read_captions.specs.Captions.{captionCount, captionsChecks, captionsSize, handedOut}
 use Rattle.read_captions.specs.Code.{captionsTested}
 
@@ -51,12 +51,12 @@ module _ (p : List ℕ) (i : ℕ) where
         no-E0 a = simp (there, le-leb _ _ long, eq-eqb _ _ id, ne-eqb _ _ a)
 
         module _ (fixed : byte p (i + 1) / 32 % 8 ≡ 7) where
-          pub captions-cut : length p < i + (2 + 3 * count)
-              → alone (refused (LengthMismatch (i + (2 + 3 * count)) (length p))) ≡ captionsTested p present i
+          pub captions-cut : length p < i + (sectionHeadSize + tripletSize * count)
+              → alone (refused (LengthMismatch (i + (sectionHeadSize + tripletSize * count)) (length p))) ≡ captionsTested p present i
           unfolding captionsTested
           captions-cut a = simp (there, le-leb _ _ long, eq-eqb _ _ id, eq-eqb _ _ fixed, as-count, lt-leb _ _ a)
 
-          pub captions-whole : i + (2 + 3 * count) ≤ length p → sized (2 + 3 * count) ≡ captionsTested p present i
+          pub captions-whole : i + (sectionHeadSize + tripletSize * count) ≤ length p → sized (sectionHeadSize + tripletSize * count) ≡ captionsTested p present i
           unfolding captionsTested
           captions-whole a = simp (there, le-leb _ _ long, eq-eqb _ _ id, eq-eqb _ _ fixed, as-count, le-leb _ _ a)
 

@@ -11,6 +11,7 @@ use Rattle.basis.specs.Answer.{ChecksumFailed, LengthMismatch, SequenceCountMis
 use Rattle.basis.specs.Bytes.{byte}
 use Rattle.basis.specs.Check.{Verdict, answer, verdict}
 use Rattle.values.specs.Sequence.{sequenceOf}
+use Rattle.values.specs.Layout.{footerSize}
 use Rattle.read_closing.specs.Closing.{
   checksumOf,
   closingChecks,
@@ -24,11 +25,11 @@ use Rattle.read_closing.specs.Code.{closingRead, footerRead}
 
 -- rule 9
 module _ (p : List ℕ) (sequence i : ℕ) where
-  pub footer-short : length p < i + 4 → refused (LengthMismatch (i + 4) (length p)) ≡ footerRead p sequence i
+  pub footer-short : length p < i + footerSize → refused (LengthMismatch (i + footerSize) (length p)) ≡ footerRead p sequence i
   unfolding footerRead
   footer-short a = simp (lt-leb _ _ a)
 
-  module _ (long : i + 4 ≤ length p) where
+  module _ (long : i + footerSize ≤ length p) where
     pub other-sequence : (sequenceOf (byte p (i + 1)) (byte p (i + 2)) ≡ sequence → ⊥)
         → refused SequenceCountMismatch ≡ footerRead p sequence i
     unfolding footerRead

@@ -14,6 +14,7 @@ use Rattle.basis.specs.Answer.{ChecksumFailed, SequenceCountMismatch, WrongMagi
 use Rattle.basis.specs.Bytes.{byte}
 use Rattle.basis.specs.Check.{Check, check, clear, verdict, sizeCheck}
 use Rattle.values.specs.Sequence.{sequenceOf}
+use Rattle.values.specs.Layout.{footerSize}
 use Rattle.read_closing.specs.Closing.{checksumOf, closingChecks, footerFrom, futureChecks, futureChecksAt, futureLength}
 
 -- the two that are kept of a future section: the size of what stands behind it, and the checks from there on
@@ -59,7 +60,7 @@ pub checksum-kept : (p : List ℕ) (sequence i : ℕ) → verdict (closingChecks
 unfolding closingChecks
 checksum-kept p sequence i h =
     let f : ℕ = footerFrom (length p) p i in
-    let size : Check = sizeCheck p (f + 4) in
+    let size : Check = sizeCheck p (f + footerSize) in
     let same : Check = check (eqb (sequenceOf (byte p (f + 1)) (byte p (f + 2))) sequence) SequenceCountMismatch in
     let sum : Check = check (eqb (byte p (f + 3)) (checksumOf p)) ChecksumFailed in
     let future : List Check = futureChecks (length p) p i in

@@ -12,7 +12,7 @@ use Rattle.basis.specs.Answer.{Refusal, refused}
 use Rattle.basis.specs.Bytes.{byte}
 use Rattle.basis.specs.Check.{Check, Verdict, broken, check, clear, verdict, when}
 use Rattle.basis.specs.Mask.{allClear, allSet, x3E, x3F, x80}
-use Rattle.values.specs.Layout.{footerId}
+use Rattle.values.specs.Layout.{footerId, sectionEntrySize}
 use Rattle.service_entries.specs.Entries.{checksAt, countOf, entryListChecks, sectionChecks}
 use Rattle.service_list.specs.Section.{listOf}
 use Rattle.read_captions.specs.Captions.{captionsChecks}
@@ -20,7 +20,7 @@ use Rattle.read_closing.specs.Closing.{closingChecks, footerChecks, footerFrom,
 use Rattle.read_header.specs.Header.{flagsIn, sequenceIn}
 use Rattle.read_services.specs.Services.{sameFlags, servicesPart, servicesChecks}
 use Rattle.read_time_code.specs.TimeCode.{timeCodeChecks}
-use Rattle.read_packet.specs.Packet.{captionsAt, closingAt, packetChecks, servicesAt}
+use Rattle.read_packet.specs.Packet.{timeCodeAt, captionsAt, closingAt, packetChecks, servicesAt}
 
 -- a refusal of rules 2 to 9: 1 to 9
 abbrev pub ofPacket : Refusal → Bool
@@ -69,7 +69,7 @@ at-all d at =
 entries-all : (d : List ℕ) (at n : ℕ) → all (entryListChecks d at n) ≡ true
 entries-all d at zero = refl
 entries-all d at (suc n) =
-    all-append (checksAt d at) (entryListChecks d (at + 7) n) (at-all d at) (entries-all d (at + 7) n)
+    all-append (checksAt d at) (entryListChecks d (at + sectionEntrySize) n) (at-all d at) (entries-all d (at + sectionEntrySize) n)
 
 section-all : (d : List ℕ) → all (sectionChecks d) ≡ true
 unfolding sectionChecks
@@ -102,11 +102,11 @@ closing-all p sequence i =
 packet-all : (p : List ℕ) → all (packetChecks p) ≡ true
 unfolding packetChecks
 packet-all p =
-    let time : List Check = when (flagsIn p .«time_code») (timeCodeChecks p 7) in
+    let time : List Check = when (flagsIn p .«time_code») (timeCodeChecks p timeCodeAt) in
     let captions : List Check = when (flagsIn p .«cc_data») (captionsChecks p (captionsAt p)) in
     let services : List Check = when (flagsIn p .«svc_info») (servicesChecks p (flagsIn p) (servicesAt p)) in
     let closing : List Check = closingChecks p (sequenceIn p) (closingAt p) in
-    all-append time (captions ++ (services ++ closing)) (all-when (flagsIn p .«time_code») (timeCodeChecks p 7) refl)
+    all-append time (captions ++ (services ++ closing)) (all-when (flagsIn p .«time_code») (timeCodeChecks p timeCodeAt) refl)
     (all-append captions (services ++ closing) (all-when (flagsIn p .«cc_data») (captionsChecks p (captionsAt p)) refl)
     (all-append services closing
     (all-when (flagsIn p .«svc_info») (servicesChecks p (flagsIn p) (servicesAt p)) (services-all p (servicesAt p)))

@@ -16,6 +16,7 @@ use Rattle.read_header.specs.declared.header.Header.{Header}
 use Rattle.read_time_code.specs.declared.time_code.TimeCodeSection.{TimeCodeSection}
 use Rattle.basis.specs.declared.answer.Answer.{Answer}
 use Rattle.basis.specs.declared.tested.Tested.{Tested}
+use Rattle.values.specs.Layout.{headerSize}
 use Rattle.read_packet.proofs.PacketReads.{
   captionsAsked,
   closingAsked,
@@ -27,19 +28,19 @@ use Rattle.read_packet.proofs.PacketReads.{
 }
 
 module _ (p : List ℕ) {header : Header} (header-is : header ≡ headerShown p) where
-  pub time-code-asked-so : timeCodeRead p (header .flags .«time_code») 7 ≡ timeCodeAsked p
+  pub time-code-asked-so : timeCodeRead p (header .flags .«time_code») headerSize ≡ timeCodeAsked p
   time-code-asked-so = rw header-is
 
   module _ {section : TimeCodeSection} (section-is : section ≡ timeCodeShown p) where
-    pub captions-asked-so : captionsTested p (header .flags .«cc_data») (7 + section .size) ≡ captionsAsked p
+    pub captions-asked-so : captionsTested p (header .flags .«cc_data») (headerSize + section .size) ≡ captionsAsked p
     captions-asked-so = rw (header-is, section-is)
 
     module _ {captions : Tested} (captions-is : captions ≡ sized (captionsLength p)) where
-      pub services-asked-so : servicesTested p (header .flags) (7 + section .size + captions .size) ≡ servicesAsked p
+      pub services-asked-so : servicesTested p (header .flags) (headerSize + section .size + captions .size) ≡ servicesAsked p
       services-asked-so = rw (header-is, section-is, captions-is)
 
       pub closing-asked-so : {services : Tested} → services ≡ sized (servicesMoved p)
-          → closingRead p (header .sequence) (7 + section .size + captions .size + services .size) ≡ closingAsked p
+          → closingRead p (header .sequence) (headerSize + section .size + captions .size + services .size) ≡ closingAsked p
       closing-asked-so services-is = rw (header-is, section-is, captions-is, services-is)
 
       pub all-shown-so : {answer : Answer} → answer ≡ done (captions .size)
@@ -50,8 +51,8 @@ module _ (p : List ℕ) {header : Header} (header-is : header ≡ headerShown p)
             «time_code» = section .«time_code»;
             sequence = header .sequence;
             flags = header .flags;
-            «captions_at» = 7 + section .size;
-            «services_at» = 7 + section .size + captions .size;
+            «captions_at» = headerSize + section .size;
+            «services_at» = headerSize + section .size + captions .size;
           })
           (checkedShown p)
       all-shown-so answer-is = rw (answer-is, header-is, section-is, captions-is)

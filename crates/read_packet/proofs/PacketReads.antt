@@ -21,7 +21,7 @@ use Rattle.basis.proofs.Verdicts.{
 }
 use Rattle.basis.specs.Answer.{LengthMismatch, UnknownFramerate, WrongMagic, done}
 use Rattle.basis.specs.Bytes.{byte}
-use Rattle.values.specs.Layout.{leastSize}
+use Rattle.values.specs.Layout.{leastSize, timeCodeSize}
 use Rattle.values.specs.Rate.{noRate}
 use Rattle.values.specs.Code.{noFlags}
 use Rattle.values_time.specs.Time.{timeAbsent}
@@ -37,7 +37,7 @@ use Rattle.read_services.specs.Services.{servicesChecks, servicesSize}
 use Rattle.read_services.specs.Code.{servicesTested}
 use Rattle.read_time_code.specs.TimeCode.{timeCodeChecks, timeCodeOf}
 use Rattle.read_time_code.specs.Code.{timeCodeRead}
-use Rattle.read_packet.specs.Packet.{captionsLength, captionsAt, closingAt, packetChecks, servicesAt}
+use Rattle.read_packet.specs.Packet.{captionsLength, captionsAt, closingAt, packetChecks, servicesAt, timeCodeAt}
 use Rattle.read_packet.specs.Code.{checkedRead, checkedShown, refusedChecked}
 use Rattle.read_packet.specs.declared.checked.Checked.{Checked}
 use Rattle.read_header.specs.declared.header.Header.{Header}
@@ -69,14 +69,14 @@ abbrev pub headerShown : List ℕ → Header
 headerShown p = record { answer = done 0; framerate = rateOf p; flags = flagsIn p; sequence = sequenceIn p }
 
 abbrev pub timeCodeAsked : List ℕ → TimeCodeSection
-timeCodeAsked p = timeCodeRead p (flagsIn p .«time_code») 7
+timeCodeAsked p = timeCodeRead p (flagsIn p .«time_code») timeCodeAt
 
 abbrev pub timeCodeShown : List ℕ → TimeCodeSection
 timeCodeShown p =
     record {
       answer = done 0;
-      «time_code» = timeCodeOf p (flagsIn p .«time_code») 7;
-      size = sizeWhen (flagsIn p .«time_code») 5;
+      «time_code» = timeCodeOf p (flagsIn p .«time_code») timeCodeAt;
+      size = sizeWhen (flagsIn p .«time_code») timeCodeSize;
     }
 
 abbrev pub captionsAsked : List ℕ → Tested
@@ -102,7 +102,7 @@ module _ (p : List ℕ) where
   header = verdict (headerChecks p)
 
   abbrev timeCode : Verdict
-  timeCode = verdict (when (flagsIn p .«time_code») (timeCodeChecks p 7))
+  timeCode = verdict (when (flagsIn p .«time_code») (timeCodeChecks p timeCodeAt))
 
   abbrev captions : Verdict
   captions = verdict (when (flagsIn p .«cc_data») (captionsChecks p (captionsAt p)))
@@ -127,8 +127,8 @@ module _ (p : List ℕ) where
   timed v =
       record {
         answer = answer v 0;
-        «time_code» = ifClear v (timeCodeOf p (flagsIn p .«time_code») 7) timeAbsent;
-        size = ifClear v (sizeWhen (flagsIn p .«time_code») 5) 0;
+        «time_code» = ifClear v (timeCodeOf p (flagsIn p .«time_code») timeCodeAt) timeAbsent;
+        size = ifClear v (sizeWhen (flagsIn p .«time_code») timeCodeSize) 0;
       }
 
   -- the packet's verdict is theirs, in order
@@ -136,7 +136,7 @@ module _ (p : List ℕ) where
   unfolding packetChecks
   in-order =
       five-parts (headerChecks p)
-      (when (flagsIn p .«time_code») (timeCodeChecks p 7))
+      (when (flagsIn p .«time_code») (timeCodeChecks p timeCodeAt))
       (when (flagsIn p .«cc_data») (captionsChecks p (captionsAt p)))
       (when (flagsIn p .«svc_info») (servicesChecks p (flagsIn p) (servicesAt p)))
       (closingChecks p (sequenceIn p) (closingAt p))
@@ -260,7 +260,7 @@ module _ (p : List ℕ) where
 
   -- the places fit a byte
   pub captions-near : captionsAt p ≤ 12
-  captions-near = omega (arith, sizeWhen-most (flagsIn p .«time_code») 5 5 (omega arith))
+  captions-near = omega (arith, sizeWhen-most (flagsIn p .«time_code») timeCodeSize timeCodeSize (omega arith))
 
   pub services-near : servicesAt p ≤ 107
   services-near =

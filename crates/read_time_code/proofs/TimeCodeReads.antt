@@ -45,12 +45,12 @@ module _ (p : List ℕ) (i : ℕ) where
   not-there present a = simp a
 
   module _ (present : Bool) (there : present ≡ true) where
-    pub too-short : length p < i + 5
-        → noTimeCode (refused (LengthMismatch (i + 5) (length p))) ≡ timeCodeRead p present i
+    pub too-short : length p < i + timeCodeSize
+        → noTimeCode (refused (LengthMismatch (i + timeCodeSize) (length p))) ≡ timeCodeRead p present i
     unfolding timeCodeRead
     too-short a = simp (there, lt-leb _ _ a)
 
-    module _ (long : i + 5 ≤ length p) where
+    module _ (long : i + timeCodeSize ≤ length p) where
       pub other-id : (byte p i ≡ 0x71 → ⊥) → noTimeCode (refused WrongMagic) ≡ timeCodeRead p present i
       unfolding timeCodeRead
       other-id a = simp (there, le-leb _ _ long, ne-eqb _ _ a)

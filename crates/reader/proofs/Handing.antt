@@ -10,7 +10,7 @@ use lib.Seq.{length-take-le}
 use Rattle.basis.proofs.Puts.{over-nil, put-put}
 use Rattle.basis.specs.Bytes.{byte, over, part}
 use Rattle.basis.specs.Code.{put}
-use Rattle.values.specs.Layout.{captionRoom}
+use Rattle.values.specs.Layout.{captionRoom, sectionHeadSize, tripletSize}
 use Rattle.read_captions.specs.Captions.{handedOut}
 
 module _ (p : List ℕ) (i : ℕ) (buffer : List ℕ) (present : Bool) where
@@ -29,17 +29,17 @@ module _ (p : List ℕ) (i : ℕ) (buffer : List ℕ) (present : Bool) where
   head = (0xC0 + count) ∷ 0xFF ∷ []
 
   abbrev tail : List ℕ
-  tail = part (i + 2) (i + (2 + 3 * count) - (i + 2)) p
+  tail = part (i + sectionHeadSize) (i + (sectionHeadSize + tripletSize * count) - (i + sectionHeadSize)) p
 
-  module _ (there : present ≡ true) (fits : i + (2 + 3 * count) ≤ length p) (room : captionRoom ≤ length buffer) where
+  module _ (there : present ≡ true) (fits : i + (sectionHeadSize + tripletSize * count) ≤ length p) (room : captionRoom ≤ length buffer) where
     as-count : byte p (i + 1) / 1 % 32 ≡ count
     as-count = omega arith
 
-    as-size : i + (2 + 3 * count) - (i + 2) ≡ 3 * count
+    as-size : i + (sectionHeadSize + tripletSize * count) - (i + sectionHeadSize) ≡ tripletSize * count
     as-size = omega arith
 
-    long-tail : length tail ≡ 3 * count
-    long-tail = length-take-le _ (drop (i + 2) p) (rw length-drop (omega arith)) ∙ as-size
+    long-tail : length tail ≡ tripletSize * count
+    long-tail = length-take-le _ (drop (i + sectionHeadSize) p) (rw length-drop (omega arith)) ∙ as-size
 
     pub all-out : put 2 tail (put 0 head buffer) ≡ after
     all-out = put-put 0 head tail buffer (omega (arith, long-tail)) ∙ rw (there, as-count, as-size)

@@ -20,6 +20,7 @@ use Rattle.read_services.specs.Services.{servicesPart, servicesChecks, services
 use Rattle.service_entry.specs.declared.entry.ServiceEntry.{ServiceEntry}
 use Rattle.service_list.specs.declared.list.MaybeServiceInfo.{MaybeServiceInfo}
 use Rattle.values.specs.declared.flags.Flags.{Flags}
+use Rattle.values.specs.Layout.{sectionEntrySize, sectionHeadSize}
 
 -- entries of a part of a packet are entries of the packet
 module _ (p : List ℕ) (i size : ℕ) where
@@ -31,7 +32,7 @@ module _ (p : List ℕ) (i size : ℕ) where
       let e : i + at + j ≡ i + (at + j) = omega arith in
       ap (byte p) e ∙ sym (byte-of-part p i size (at + j) h)
 
-  same-six : (at : ℕ) → at + 7 ≤ size → sixBehind p (i + at) ≡ sixBehind inside at
+  same-six : (at : ℕ) → at + sectionEntrySize ≤ size → sixBehind p (i + at) ≡ sixBehind inside at
   same-six at h =
       rw (
         same-byte at 1 (omega arith),
@@ -42,12 +43,12 @@ module _ (p : List ℕ) (i size : ℕ) where
         same-byte at 6 (omega arith),
       )
 
-  pub entries-inside : (at n : ℕ) → at + 7 * n ≤ size → entriesOf p (i + at) n ≡ entriesOf inside at n
+  pub entries-inside : (at n : ℕ) → at + sectionEntrySize * n ≤ size → entriesOf p (i + at) n ≡ entriesOf inside at n
   entries-inside at zero h = refl
   entries-inside at (suc n) h =
-      let e : i + at + 7 ≡ i + (at + 7) = omega arith in
+      let e : i + at + sectionEntrySize ≡ i + (at + sectionEntrySize) = omega arith in
       ap₂ (λ (x : ServiceEntry) (xs : List ServiceEntry). x ∷ xs) (ap entryOf (same-six at (omega arith)))
-      (ap (λ (k : ℕ). entriesOf p k n) e ∙ entries-inside (at + 7) n (omega arith))
+      (ap (λ (k : ℕ). entriesOf p k n) e ∙ entries-inside (at + sectionEntrySize) n (omega arith))
 
 -- what stands behind the section's byte 1, where the section is right; and no entry where there is none
 module _ (p : List ℕ) (f : Flags) (i : ℕ) where
@@ -62,7 +63,7 @@ module _ (p : List ℕ) (f : Flags) (i : ℕ) where
         present = on;
         «service_info» =
             list (eqb (headerOf on / 64 % 2) 1) (eqb (headerOf on / 32 % 2) 1) (eqb (headerOf on / 16 % 2) 1)
-            (filled (entriesOf p (i + 2) (headerOf on % 16))) (headerOf on % 16);
+            (filled (entriesOf p (i + sectionHeadSize) (headerOf on % 16))) (headerOf on % 16);
       }
 
   module _ (kept : verdict (servicesChecks p f i) ≡ clear) where
@@ -74,12 +75,12 @@ module _ (p : List ℕ) (f : Flags) (i : ℕ) where
 
     list-inside : made true ≡ listPresent (listOf (servicesPart p i))
     list-inside =
-        let places : entriesOf p (i + 2) (byte p (i + 1) % 16)
+        let places : entriesOf p (i + sectionHeadSize) (byte p (i + 1) % 16)
         ≡ entriesOf (servicesPart p i) 2 (countOf (servicesPart p i)) =
         entries-inside p i (servicesSize p i) 2 (byte p (i + 1) % 16) (omega arith)
         ∙ ap (entriesOf (servicesPart p i) 2) (sym count-is) in
         ap listPresent
-        (Lists.with-is (byte p (i + 1)) (filled (entriesOf p (i + 2) (byte p (i + 1) % 16)))
+        (Lists.with-is (byte p (i + 1)) (filled (entriesOf p (i + sectionHeadSize) (byte p (i + 1) % 16)))
         ∙ ap₂ listWith (sym (byte-one p i)) (ap filled places)
         ∙ Lists.list-is (servicesPart p i))
 
@@ -87,7 +88,7 @@ module _ (p : List ℕ) (f : Flags) (i : ℕ) where
   unfolding filled
   list-absent = refl
 
-  fits : (on : Bool) → (on ≡ true → verdict (servicesChecks p f i) ≡ clear) → 7 * (headerOf on % 16) ≤ length p - (i + 2)
+  fits : (on : Bool) → (on ≡ true → verdict (servicesChecks p f i) ≡ clear) → sectionEntrySize * (headerOf on % 16) ≤ length p - (i + sectionHeadSize)
   fits true kept = omega (arith, there (kept refl))
   fits false kept = omega arith
 
@@ -99,7 +100,7 @@ module _ (p : List ℕ) (f : Flags) (i : ℕ) where
     pub header-there : f .«svc_info» ≡ true → i + 1 + 1 ≤ length p
     header-there on = omega (arith, there (kept on))
 
-    pub entries-fit : 7 * (headerOf (f .«svc_info») % 16) ≤ length p - (i + 2)
+    pub entries-fit : sectionEntrySize * (headerOf (f .«svc_info») % 16) ≤ length p - (i + sectionHeadSize)
     entries-fit = fits (f .«svc_info») kept
 
     pub list-is : made (f .«svc_info») ≡ servicesOf p (f .«svc_info») i

@@ -12,7 +12,7 @@ use Rattle.read_header.specs.Header.{flagsIn, rateOf, sequenceIn}
 use Rattle.read_time_code.specs.TimeCode.{timeCodeOf}
 use Rattle.read_services.specs.Services.{servicesChecks, servicesOf}
 use Rattle.read_packet.proofs.PacketReads.{given, services-of-packet}
-use Rattle.read_packet.specs.Packet.{captionsLength, captionsAt, packetChecks, servicesAt}
+use Rattle.read_packet.specs.Packet.{timeCodeAt, captionsLength, captionsAt, packetChecks, servicesAt}
 use Rattle.read_packet.specs.Code.{checkedRead, checkedShown, refusedChecked}
 use Rattle.reader.specs.Shown.{freshReader, shownBy, state}
 use Rattle.reader.specs.Code.{packetRead, refusedPacket}
@@ -77,7 +77,7 @@ module _ (p : List ℕ) where
       → f .«svc_info» ≡ true → verdict (servicesChecks p f i) ≡ clear
   kept-so f i v fe ie = rw (fe, ie) (list-kept v)
 
-  pub shown-is : state (rateOf p) (timeCodeOf p (flagsIn p .«time_code») 7) (sequenceIn p)
+  pub shown-is : state (rateOf p) (timeCodeOf p (flagsIn p .«time_code») timeCodeAt) (sequenceIn p)
       (servicesOf p (flagsIn p .«svc_info») (servicesAt p))
       ≡ shownBy p
   unfolding shownBy

@@ -27,7 +27,7 @@ use Rattle.basis.specs.Answer.{LengthMismatch, WrongMagic, InvalidFixedBits, Se
 use Rattle.basis.specs.Bytes.{byte}
 use Rattle.basis.specs.Check.{Check, Verdict, check, clear, sizeCheck, verdict, answer, ifClear}
 use Rattle.basis.specs.Mask.{allSet, x80, x40, x20}
-use Rattle.values.specs.Layout.{servicesId, sectionLength}
+use Rattle.values.specs.Layout.{servicesId, sectionLength, sectionEntrySize}
 use Rattle.service_entry.specs.Entry.{entryChecks, entryOf, entryRead}
 use Rattle.service_entries.specs.Entries.{
   checksAt,
@@ -140,18 +140,18 @@ left d k count = verdict (entryListChecks d (sectionLength k) (count - k))
 
 -- one entry more at the end
 entries-more : (d : List ℕ) (at n : ℕ)
-    → entriesOf d at (suc n) ≡ entriesOf d at n ++ entryOf (sixBehind d (at + 7 * n)) ∷ []
+    → entriesOf d at (suc n) ≡ entriesOf d at n ++ entryOf (sixBehind d (at + sectionEntrySize * n)) ∷ []
 entries-more d at zero =
-    let e : at ≡ at + 7 * 0 = omega arith in
+    let e : at ≡ at + sectionEntrySize * 0 = omega arith in
     ap (λ (n : ℕ). entryOf (sixBehind d n) ∷ []) e
 entries-more d at (suc n) =
-    let e : at + 7 + 7 * n ≡ at + 7 * suc n = omega arith in
+    let e : at + sectionEntrySize + sectionEntrySize * n ≡ at + sectionEntrySize * suc n = omega arith in
     ap (λ (es : List ServiceEntry). entryOf (sixBehind d at) ∷ es)
-    (entries-more d (at + 7) n ∙ ap (λ (m : ℕ). entriesOf d (at + 7) n ++ entryOf (sixBehind d m) ∷ []) e)
+    (entries-more d (at + sectionEntrySize) n ∙ ap (λ (m : ℕ). entriesOf d (at + sectionEntrySize) n ++ entryOf (sixBehind d m) ∷ []) e)
 
 entries-length : (d : List ℕ) (at n : ℕ) → length (entriesOf d at n) ≡ n
 entries-length d at zero = refl
-entries-length d at (suc n) = ap suc (entries-length d (at + 7) n)
+entries-length d at (suc n) = ap suc (entries-length d (at + sectionEntrySize) n)
 
 -- the places of a list with one entry more
 pub filled-more : (es : List ServiceEntry) (e : ServiceEntry) → length es < 15
@@ -171,11 +171,11 @@ module _ (d : List ℕ) (from k : ℕ) where
   unfolding firstRead filled
   first-none = refl
 
-  pub first-more : k < 15 → set (firstRead d from k) k (entryOf (sixBehind d (from + 7 * k))) ≡ firstRead d from (k + 1)
+  pub first-more : k < 15 → set (firstRead d from k) k (entryOf (sixBehind d (from + sectionEntrySize * k))) ≡ firstRead d from (k + 1)
   unfolding firstRead
   first-more h =
       let es : List ServiceEntry = entriesOf d from k in
-      let e : ServiceEntry = entryOf (sixBehind d (from + 7 * k)) in
+      let e : ServiceEntry = entryOf (sixBehind d (from + sectionEntrySize * k)) in
       let long : length es ≡ k = entries-length d from k in
       ap (λ (n : ℕ). set (filled es) n e) (sym long)
       ∙ filled-more es e (omega arith)
@@ -198,9 +198,9 @@ module _ (d : List ℕ) (k count : ℕ) where
       let at : ℕ = sectionLength k in
       let rest : ℕ = count - (k + 1) in
       let before : count - k ≡ suc rest = omega arith in
-      let after : at + 7 ≡ sectionLength (k + 1) = omega arith in
+      let after : at + sectionEntrySize ≡ sectionLength (k + 1) = omega arith in
       ap (λ (n : ℕ). verdict (entryListChecks d at n)) before
-      ∙ verdict-append (checksAt d at) (entryListChecks d (at + 7) rest)
+      ∙ verdict-append (checksAt d at) (entryListChecks d (at + sectionEntrySize) rest)
       ∙ ap (λ (n : ℕ). andThen (verdict (checksAt d at)) (verdict (entryListChecks d n rest))) after
 
   pub left-none : count ≤ k → left d k count ≡ clear
@@ -286,25 +286,25 @@ module _ (d : List ℕ) where
 -- of entries that are right, each is right by its own rules, so that its own reader gives what its bytes hold
 module _ (d : List ℕ) where
   at-kept : (from count k : ℕ) → k < count → verdict (entryListChecks d from count) ≡ clear
-      → verdict (checksAt d (from + 7 * k)) ≡ clear
+      → verdict (checksAt d (from + sectionEntrySize * k)) ≡ clear
   at-kept from zero k h v = absurd (omega arith)
   at-kept from (suc n) zero h v =
-      let e : from ≡ from + 7 * 0 = omega arith in
+      let e : from ≡ from + sectionEntrySize * 0 = omega arith in
       rw (← e)
-      (and-first (verdict (checksAt d from)) (verdict (entryListChecks d (from + 7) n))
-      (sym (verdict-append (checksAt d from) (entryListChecks d (from + 7) n)) ∙ v))
+      (and-first (verdict (checksAt d from)) (verdict (entryListChecks d (from + sectionEntrySize) n))
+      (sym (verdict-append (checksAt d from) (entryListChecks d (from + sectionEntrySize) n)) ∙ v))
   at-kept from (suc n) (suc k) h v =
-      let e : from + 7 + 7 * k ≡ from + 7 * suc k = omega arith in
+      let e : from + sectionEntrySize + sectionEntrySize * k ≡ from + sectionEntrySize * suc k = omega arith in
       rw (← e)
-      (at-kept (from + 7) n k (omega arith)
-      (and-second (verdict (checksAt d from)) (verdict (entryListChecks d (from + 7) n))
-      (sym (verdict-append (checksAt d from) (entryListChecks d (from + 7) n)) ∙ v)))
+      (at-kept (from + sectionEntrySize) n k (omega arith)
+      (and-second (verdict (checksAt d from)) (verdict (entryListChecks d (from + sectionEntrySize) n))
+      (sym (verdict-append (checksAt d from) (entryListChecks d (from + sectionEntrySize) n)) ∙ v)))
 
   pub entry-held : (from count k : ℕ) → verdict (entryListChecks d from count) ≡ clear → k < count
-      → entryRead (sixBehind d (from + 7 * k)) .entry ≡ entryOf (sixBehind d (from + 7 * k))
+      → entryRead (sixBehind d (from + sectionEntrySize * k)) .entry ≡ entryOf (sixBehind d (from + sectionEntrySize * k))
   unfolding entryRead
   entry-held from count k v h =
-      let at : ℕ = from + 7 * k in
+      let at : ℕ = from + sectionEntrySize * k in
       let bit : Check = check (allSet x80 (byte d at)) InvalidFixedBits in
       let named : Check = check (not (allSet x40 (byte d at)) || allSet x20 (byte d at)) InvalidFixedBits in
       let behind : List Check = entryChecks (sixBehind d at) ++ numberCheck d at ∷ [] in

@@ -16,7 +16,7 @@ use Rattle.basis.specs.Answer.{ServiceNumberMismatch, done, refused}
 use Rattle.basis.specs.Bytes.{byte}
 use Rattle.basis.specs.Check.{Check, Verdict, check, verdict, clear, broken}
 use Rattle.basis.specs.Mask.{flag, under, allSet, x80, x40, x20, x10, x3F, x0F}
-use Rattle.values.specs.Layout.{servicesId, sectionLength}
+use Rattle.values.specs.Layout.{servicesId, sectionLength, sectionEntrySize}
 use Rattle.service_entry.specs.Entry.{entryChecks, entryOf}
 use Rattle.service_list.specs.SectionBack.{isFieldTwo, namesFieldTwo, allOfThree, Ready}
 use Rattle.service_entries.specs.Entries.{
@@ -101,8 +101,8 @@ module _ (d : List ℕ) (at : ℕ) (e : ServiceEntry) (rest : List ℕ) (h : dro
   six-on : sixBehind d at ≡ entryBytes e
   six-on = simp (on 1, on 2, on 3, on 4, on 5, on 6)
 
-  rest-on : drop (at + 7) d ≡ rest
-  rest-on = further-on d at (sevenBytes e) rest h 7 refl
+  rest-on : drop (at + sectionEntrySize) d ≡ rest
+  rest-on = further-on d at (sevenBytes e) rest h sectionEntrySize refl
 
   -- reading there: 7 for field 2, else clear
   place-back : writable (e .service) ≡ true → verdict (checksAt d at) ≡ named (isFieldTwo (e .service))
@@ -127,11 +127,11 @@ checks-back : (d : List ℕ) (at : ℕ) (es : List ServiceEntry) → drop at d �
 unfolding allWritable namesFieldTwo
 checks-back d at [] h w = refl
 checks-back d at (e ∷ es) h w =
-    verdict-append (checksAt d at) (entryListChecks d (at + 7) (length es))
+    verdict-append (checksAt d at) (entryListChecks d (at + sectionEntrySize) (length es))
     ∙ ap₂
     andThen
     (place-back d at e (entryListBytes es) h (and-left _ _ w))
-    (checks-back d (at + 7) es (rest-on d at e (entryListBytes es) h) (and-right (writable (e .service)) _ w))
+    (checks-back d (at + sectionEntrySize) es (rest-on d at e (entryListBytes es) h) (and-right (writable (e .service)) _ w))
     ∙ both (isFieldTwo (e .service)) (namesFieldTwo es)
 
 entries-back : (d : List ℕ) (at : ℕ) (es : List ServiceEntry) → drop at d ≡ entryListBytes es → allWritable es ≡ true
@@ -139,14 +139,14 @@ entries-back : (d : List ℕ) (at : ℕ) (es : List ServiceEntry) → drop at d 
 unfolding allWritable allOfThree
 entries-back d at [] h w t = refl
 entries-back d at (e ∷ es) h w t =
-    let on : drop (at + 7) d ≡ entryListBytes es = rest-on d at e (entryListBytes es) h in
+    let on : drop (at + sectionEntrySize) d ≡ entryListBytes es = rest-on d at e (entryListBytes es) h in
     let ws : allWritable es ≡ true = and-right (writable (e .service)) _ w in
     let ts : allOfThree es ≡ true = and-right (eqb (length (e .language)) 3) _ t in
     ap₂
     (λ (x : ServiceEntry) (xs : List ServiceEntry). x ∷ xs)
     (ap entryOf (six-on d at e (entryListBytes es) h)
     ∙ entry-of-back e (eqb-true _ _ (and-left _ _ t)) (and-left _ _ w))
-    (entries-back d (at + 7) es on ws ts)
+    (entries-back d (at + sectionEntrySize) es on ws ts)
 
 -- byte 1: bit 80 is set, each flag is in its bit, and the low four are the count
 record Bits (b : ℕ) (start change complete : Bool) (n : ℕ) : Type 0 where
@@ -172,7 +172,7 @@ bit-back b true h = rw h
 bit-back b false h = rw h
 
 -- S1 to S4 are kept by a first byte 73, a second byte with 80, and seven bytes for each entry that it counts
-frame-clear : (header : ℕ) (rest : List ℕ) → allSet x80 header ≡ true → length rest ≡ 7 * under x0F header
+frame-clear : (header : ℕ) (rest : List ℕ) → allSet x80 header ≡ true → length rest ≡ sectionEntrySize * under x0F header
     → verdict (frameChecks (servicesId ∷ header ∷ rest)) ≡ clear
 frame-clear header rest h80 size =
     simp (
@@ -195,7 +195,7 @@ module _ (l : ServiceInfo) (r : Ready l) where
   entries-count : under x0F (sectionByte l) ≡ length (counted l)
   entries-count = count-back ∙ sym (counted-length l)
 
-  entry-bytes-length : length (entryListBytes (counted l)) ≡ 7 * under x0F (sectionByte l)
+  entry-bytes-length : length (entryListBytes (counted l)) ≡ sectionEntrySize * under x0F (sectionByte l)
   entry-bytes-length = rw entries-count (bytes-length (counted l))
 
   pub section-verdict : verdict (sectionChecks (sectionBytes l)) ≡ named (namesFieldTwo (counted l))

@@ -16,7 +16,7 @@ use Rattle.basis.specs.Answer.{WouldOverflow, BufferTooShort, NotWritable, done
 use Rattle.basis.specs.Bytes.{over}
 use Rattle.basis.specs.Code.{put}
 use Rattle.basis.specs.Check.{Verdict, clear, broken, verdict, answer}
-use Rattle.values.specs.Layout.{servicesId, sectionLength}
+use Rattle.values.specs.Layout.{servicesId, sectionLength, sectionEntrySize}
 use Rattle.service_entry.specs.Service.{filler}
 use Rattle.service_list.specs.ServiceList.{byteLen}
 use Rattle.service_entry.proofs.EntryBack.{seven-of}
@@ -38,7 +38,7 @@ use Rattle.service_entry.specs.declared.entry.ServiceEntry.{ServiceEntry}
 use Rattle.service_list.specs.declared.list.ServiceInfo.{ServiceInfo}
 
 -- seven bytes for each entry
-pub bytes-length : (es : List ServiceEntry) → length (entryListBytes es) ≡ 7 * length es
+pub bytes-length : (es : List ServiceEntry) → length (entryListBytes es) ≡ sectionEntrySize * length es
 bytes-length [] = refl
 bytes-length (e ∷ es) = omega (arith, bytes-length es)
 
@@ -72,7 +72,7 @@ one-more services k =
 pub counted-length : (l : ServiceInfo) → length (counted l) ≡ l .count
 counted-length l = places-length (l .services) 0 (l .count)
 
-first-length : (services : List ServiceEntry) (k : ℕ) → length (entryListBytes (placesFrom services 0 k)) ≡ 7 * k
+first-length : (services : List ServiceEntry) (k : ℕ) → length (entryListBytes (placesFrom services 0 k)) ≡ sectionEntrySize * k
 first-length services k = omega (arith, bytes-length (placesFrom services 0 k), places-length services 0 k)
 
 -- the buffer with the first k entries in it
@@ -84,7 +84,7 @@ module _ (k : ℕ) (services : List ServiceEntry) (buffer : List ℕ) where
   unfolding entriesPut
   put-none = sym (over-nil 2 buffer)
 
-  pub put-more : (d : ServiceEntry) → k < length services → sectionLength k + 7 ≤ length buffer
+  pub put-more : (d : ServiceEntry) → k < length services → sectionLength k + sectionEntrySize ≤ length buffer
       → writable (getD services k d .service) ≡ true
       → put (sectionLength k) (sevenOf (getD services k d)) (entriesPut k services buffer)
       ≡ entriesPut (k + 1) services buffer
@@ -92,8 +92,8 @@ module _ (k : ℕ) (services : List ServiceEntry) (buffer : List ℕ) where
   put-more d h fits can =
       let bytes : List ℕ = entryListBytes (placesFrom services 0 k) in
       let e : ServiceEntry = getD services k filler in
-      let long : 7 * k ≡ length bytes = sym (first-length services k) in
-      let room : sectionLength k + 7 ≤ length (over 2 bytes buffer) = rw (length-over 2 bytes buffer (omega arith)) fits in
+      let long : sectionEntrySize * k ≡ length bytes = sym (first-length services k) in
+      let room : sectionLength k + sectionEntrySize ≤ length (over 2 bytes buffer) = rw (length-over 2 bytes buffer (omega arith)) fits in
       ap (λ (b : List ℕ). put (sectionLength k) b (over 2 bytes buffer)) (seven-of (getD services k d) can)
       ∙ rw (same-place services k d filler h)
       (put-fits (sectionLength k) (sevenBytes e) (over 2 bytes buffer) room

@@ -15,7 +15,7 @@ use Rattle.basis.specs.Bytes.{byte}
 use Rattle.basis.specs.Check.{Check, Verdict, check, clear, ifClear, sizeWhen, verdict, when}
 use Rattle.basis.specs.Mask.{under, xF0}
 use Rattle.values.specs.Flags.{flagsOf}
-use Rattle.values.specs.Layout.{servicesId, sectionLength}
+use Rattle.values.specs.Layout.{servicesId, sectionLength, timeCodeSize}
 use Rattle.values.specs.Rate.{fromId}
 use Rattle.service_entries.specs.Entries.{sectionChecks}
 use Rattle.service_list.specs.Section.{listOf, sectionRead}
@@ -28,7 +28,7 @@ use Rattle.read_closing.specs.Closing.{checksumOf, closingChecks}
 use Rattle.read_services.proofs.ServicesAlone.{FlagsOf, alone}
 use Rattle.read_services.specs.Services.{servicesChecks, servicesOf, servicesSize}
 use Rattle.read_packet.proofs.PacketReads.{closing-of-packet, in-order, services-of-packet}
-use Rattle.read_packet.specs.Packet.{captionsLength, captionsAt, closingAt, footerAt, packetChecks, servicesAt}
+use Rattle.read_packet.specs.Packet.{timeCodeAt, captionsLength, captionsAt, closingAt, footerAt, packetChecks, servicesAt}
 use Rattle.reader.specs.Shown.{shownBy, state}
 use Rattle.reader.specs.Reader.{captionsOf}
 use Rattle.theorem_altered.proofs.Outside.{
@@ -90,21 +90,21 @@ module _ (p q : List ℕ) (a : Altered p q) where
   sequenced : sequenceIn q ≡ sequenceIn p
   sequenced = rw (front 5 (omega arith) (omega arith), front 6 (omega arith) (omega arith))
 
-  time-bytes : Same p q 7 (captionsAt p)
+  time-bytes : Same p q timeCodeAt (captionsAt p)
   time-bytes i low high = front i (omega (arith, low)) (omega (arith, high))
 
-  time-verdict : verdict (when (flagsIn q .«time_code») (timeCodeChecks q 7))
-      ≡ verdict (when (flagsIn p .«time_code») (timeCodeChecks p 7))
+  time-verdict : verdict (when (flagsIn q .«time_code») (timeCodeChecks q timeCodeAt))
+      ≡ verdict (when (flagsIn p .«time_code») (timeCodeChecks p timeCodeAt))
   time-verdict =
-      ap (λ (b : Bool). verdict (when b (timeCodeChecks q 7))) timed
-      ∙ ap verdict (time-same p q size 7 (flagsIn p .«time_code») time-bytes)
+      ap (λ (b : Bool). verdict (when b (timeCodeChecks q timeCodeAt))) timed
+      ∙ ap verdict (time-same p q size timeCodeAt (flagsIn p .«time_code») time-bytes)
 
-  time-kept : timeCodeOf q (flagsIn q .«time_code») 7 ≡ timeCodeOf p (flagsIn p .«time_code») 7
-  time-kept = ap (λ (b : Bool). timeCodeOf q b 7) timed ∙ time-shown p q size 7 (flagsIn p .«time_code») time-bytes
+  time-kept : timeCodeOf q (flagsIn q .«time_code») timeCodeAt ≡ timeCodeOf p (flagsIn p .«time_code») timeCodeAt
+  time-kept = ap (λ (b : Bool). timeCodeOf q b timeCodeAt) timed ∙ time-shown p q size timeCodeAt (flagsIn p .«time_code») time-bytes
 
   -- captions: their header, and so their place and their number
   captions-at : captionsAt q ≡ captionsAt p
-  captions-at = ap (λ (b : Bool). 7 + sizeWhen b 5) timed
+  captions-at = ap (λ (b : Bool). timeCodeAt + sizeWhen b timeCodeSize) timed
 
   captions-bytes : Same p q (captionsAt p) (captionsFrom p)
   captions-bytes i low high = front i (omega (arith, low)) high

@@ -16,7 +16,7 @@ use Rattle.basis.specs.Bytes.{byte, over, part}
 use Rattle.basis.specs.Check.{Check, check, clear, sizeWhen, verdict}
 use Rattle.basis.specs.Mask.{allSet, under, x0F, x80}
 use Rattle.values.specs.Flags.{flagsOf}
-use Rattle.values.specs.Layout.{servicesId, sectionLength}
+use Rattle.values.specs.Layout.{servicesId, sectionLength, footerSize}
 use Rattle.service_entries.specs.Entries.{countOf, sectionChecks}
 use Rattle.service_list.specs.Section.{sectionRead}
 use Rattle.read_header.specs.Header.{flagsIn}
@@ -38,7 +38,7 @@ use Rattle.theorem_altered.proofs.PutBytes.{
   over-inside,
 }
 
-module _ (p : List ℕ) (accepted : verdict (packetChecks p) ≡ clear) (ends : length p ≡ footerAt p + 4) where
+module _ (p : List ℕ) (accepted : verdict (packetChecks p) ≡ clear) (ends : length p ≡ footerAt p + footerSize) where
   -- a packet that is the same outside a span and outside byte 4, mended
   module _ (from to : ℕ) (r : List ℕ) (size : length r ≡ length p) (low : 5 ≤ from) (within : from < length p)
       (first : Same p r 0 4) (middle : Same p r 5 from) (behind : Same p r to (length p - 1)) where
@@ -72,7 +72,7 @@ module _ (p : List ℕ) (accepted : verdict (packetChecks p) ≡ clear) (ends : 
     abbrev putIn : List ℕ
     putIn = over (captionsFrom p) captions p
 
-    captions-end : servicesAt p + 4 ≤ length p
+    captions-end : servicesAt p + footerSize ≤ length p
     captions-end = omega (arith, ends, further p p refl (length p) (closingAt p))
 
     fits : captionsFrom p + length captions ≤ length p
@@ -136,7 +136,7 @@ module _ (p : List ℕ) (accepted : verdict (packetChecks p) ≡ clear) (ends : 
         ∙ ap (λ (n : ℕ). at + sectionLength n) (sym (count-at p at) ∙ sym asMany)
         ∙ ap (λ (n : ℕ). at + n) (sym own-long)
 
-    end : closingAt p + 4 ≤ length p
+    end : closingAt p + footerSize ≤ length p
     end = omega (arith, ends, further p p refl (length p) (closingAt p))
 
     room : at + length section ≤ length p

@@ -10,6 +10,7 @@ use lib.Dec.{eqb}
 use lib.ListN.{length}
 use Rattle.basis.specs.Bytes.{byte}
 use Rattle.basis.specs.Check.{sizeWhen, when, sizeCheck}
+use Rattle.values.specs.Layout.{footerSize, timeCodeSize}
 use Rattle.read_captions.specs.Captions.{captionsChecks, captionsSize}
 use Rattle.read_header.specs.Header.{flagsIn, headerChecks}
 use Rattle.read_time_code.specs.TimeCode.{timeCodeChecks, timeCodeOf}
@@ -45,7 +46,7 @@ module _ (p q : List ℕ) (size : length q ≡ length p) where
 
   -- rule 5 looks at the five bytes from i on
   module _ (i : ℕ) where
-    pub time-same : (present : Bool) → Same p q i (i + sizeWhen present 5)
+    pub time-same : (present : Bool) → Same p q i (i + sizeWhen present timeCodeSize)
         → when present (timeCodeChecks q i) ≡ when present (timeCodeChecks p i)
     time-same true same =
         rw (
@@ -57,7 +58,7 @@ module _ (p q : List ℕ) (size : length q ≡ length p) where
         )
     time-same false same = refl
 
-    pub time-shown : (present : Bool) → Same p q i (i + sizeWhen present 5)
+    pub time-shown : (present : Bool) → Same p q i (i + sizeWhen present timeCodeSize)
         → timeCodeOf q present i ≡ timeCodeOf p present i
     time-shown true same =
         rw (
@@ -127,7 +128,7 @@ module _ (p q : List ℕ) (size : length q ≡ length p) where
         )
 
   -- where the packet ends with its footer, and both have their checksum
-  module _ (i sequence : ℕ) (same : Same p q i (length p - 1)) (ends : length p ≡ footerFrom (length p) p i + 4)
+  module _ (i sequence : ℕ) (same : Same p q i (length p - 1)) (ends : length p ≡ footerFrom (length p) p i + footerSize)
       (sum : byte p (length p - 1) ≡ checksumOf p) (mended : byte q (length q - 1) ≡ checksumOf q) where
     abbrev footer : ℕ
     footer = footerFrom (length p) p i
@@ -166,10 +167,10 @@ module _ (from to : ℕ) (p q : List ℕ) (put : Put from to p q) where
   pub behind : Same p q to (length p - 1)
   behind i low high = bytes-same p q to (length p - 1 - to) (put .behindSpan) i low (omega (arith, low, high))
 
-  pub closing-fits : closingAt p + 4 ≤ length p
+  pub closing-fits : closingAt p + footerSize ≤ length p
   closing-fits = omega (arith, put .endsWithFooter, further p q (put .equallyMany) (length p) (closingAt p))
 
-  pub section-fits : flagsIn p .«svc_info» ≡ true → servicesAt p + servicesSize p (servicesAt p) + 4 ≤ length p
+  pub section-fits : flagsIn p .«svc_info» ≡ true → servicesAt p + servicesSize p (servicesAt p) + footerSize ≤ length p
   section-fits on =
       let place : closingAt p ≡ servicesAt p + servicesSize p (servicesAt p) =
       ap (λ (b : Bool). servicesAt p + sizeWhen b (servicesSize p (servicesAt p))) on in

@@ -10,7 +10,7 @@ use lib.ListN.{drop, length}
 use Rattle.basis.proofs.Verdicts.{done-clear}
 use Rattle.basis.specs.Bytes.{byte}
 use Rattle.basis.specs.Check.{clear, verdict}
-use Rattle.values.specs.Layout.{footerId}
+use Rattle.values.specs.Layout.{footerId, footerSize}
 use Rattle.read_closing.proofs.ClosingReads.{begins, footer-reached, footer-whole}
 use Rattle.read_closing.specs.Closing.{checksumOf, closingChecks}
 use Rattle.read_closing.specs.Code.{closingRead}
@@ -19,7 +19,7 @@ use Rattle.basis.proofs.Places.{byte-on}
 use Rattle.basis.specs.declared.answer.Answer.{Answer}
 
 module _ (p : List ℕ) (i sequence sum : ℕ) (h : drop i p ≡ footerBytes sequence ++ sum ∷ [])
-    (size : length p ≡ i + 4) (right : sum ≡ checksumOf p) where
+    (size : length p ≡ i + footerSize) (right : sum ≡ checksumOf p) where
   abbrev bytes : List ℕ
   bytes = footerBytes sequence ++ sum ∷ []
 

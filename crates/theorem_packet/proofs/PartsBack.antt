@@ -8,7 +8,7 @@ use Prim.Native.Nat.{ℕ, _+_, _≤_}
 use lib.Dec.{eqb}
 use lib.ListN.{drop, length}
 use Rattle.basis.specs.Check.{Verdict, answer, clear, sizeWhen, verdict, when}
-use Rattle.values.specs.Layout.{timeCodeId, sectionLength}
+use Rattle.values.specs.Layout.{timeCodeId, sectionLength, timeCodeSize}
 use Rattle.values_time.specs.Time.{timeBytes, timePresent, timeWriteChecks}
 use Rattle.service_list.proofs.SectionBack.{named}
 use Rattle.service_list.proofs.SectionWrites.{value-done}
@@ -33,7 +33,7 @@ pub record TimeHere (p : List ℕ) (i : ℕ) (present : Bool) (t : TimeCode) : T
 
 pub time-here : (p : List ℕ) (i : ℕ) (present : Bool) (t : TimeCode) (rest : List ℕ)
     → drop i p ≡ cond present (timeCodeId ∷ timeBytes t) [] ++ rest
-    → verdict (when present (timeWriteChecks t)) ≡ clear → i + sizeWhen present 5 ≤ length p → TimeHere p i present t
+    → verdict (when present (timeWriteChecks t)) ≡ clear → i + sizeWhen present timeCodeSize ≤ length p → TimeHere p i present t
 time-here p i true t rest h right fits =
     record { right = time-clear p i t rest h right fits; shown = ap timePresent (time-value p i t rest h right) }
 time-here p i false t rest h right fits = record { right = refl; shown = refl }

@@ -14,7 +14,7 @@ use Rattle.basis.specs.Answer.{InvalidFixedBits, InvalidServiceNumber, Refusal,
 use Rattle.basis.specs.Bytes.{byte}
 use Rattle.basis.specs.Check.{Check, Verdict, broken, check, clear, roomCheck, sizeCheck, verdict, when}
 use Rattle.basis.specs.Mask.{allClear, allSet, x3E, x3F, x80}
-use Rattle.values.specs.Layout.{footerId, sectionLength, captionRoom}
+use Rattle.values.specs.Layout.{footerId, sectionLength, captionRoom, footerSize, sectionEntrySize, timeCodeSize}
 use Rattle.values_time.specs.Time.{timeChecks, timeWriteChecks}
 use Rattle.service_entry.specs.Entry.{entryChecks}
 use Rattle.service_entry.specs.EntryWriting.{entryCheck}
@@ -26,7 +26,7 @@ use Rattle.read_captions.specs.Captions.{captionsChecks, captionsSize}
 use Rattle.read_services.proofs.ServicesReads.{count-at}
 use Rattle.read_services.specs.Services.{servicesPart, servicesChecks, servicesSize}
 use Rattle.read_closing.specs.Closing.{closingChecks, footerChecks, footerFrom, futureChecks, futureLength}
-use Rattle.read_packet.specs.Packet.{captionsAt, closingAt, packetChecks, servicesAt}
+use Rattle.read_packet.specs.Packet.{timeCodeAt, captionsAt, closingAt, packetChecks, servicesAt}
 use Rattle.reader.specs.Reader.{readChecks}
 use Rattle.write_checks.specs.Checks as Checks
 use Rattle.writer.specs.Writer.{setChecks}
@@ -130,7 +130,7 @@ module _ {beside : ℕ → ℕ → Bool} where
   entries-proper : (d : List ℕ) (at n : ℕ) → Proper beside (entryListChecks d at n)
   entries-proper d at zero = none
   entries-proper d at (suc n) =
-      both (checksAt d at) (entryListChecks d (at + 7) n) (at-proper d at) (entries-proper d (at + 7) n)
+      both (checksAt d at) (entryListChecks d (at + sectionEntrySize) n) (at-proper d at) (entries-proper d (at + sectionEntrySize) n)
 
   pub time-write-proper : (t : TimeCode) → Proper beside (timeWriteChecks t)
   time-write-proper t = fixed refl (fixed refl (fixed refl (fixed refl none)))
@@ -169,7 +169,7 @@ module _ {beside : ℕ → ℕ → Bool} (shorter : Shorter beside) where
 
   pub time-code-proper : (p : List ℕ) (i : ℕ) → Proper beside (timeCodeChecks p i)
   time-code-proper p i =
-      size p (i + 5) (λ _. fixed refl (time-proper (byte p (i + 1)) (byte p (i + 2)) (byte p (i + 3)) (byte p (i + 4))))
+      size p (i + timeCodeSize) (λ _. fixed refl (time-proper (byte p (i + 1)) (byte p (i + 2)) (byte p (i + 3)) (byte p (i + 4))))
 
   pub captions-proper : (p : List ℕ) (i : ℕ) → Proper beside (captionsChecks p i)
   captions-proper p i = size p (i + 2) (λ _. fixed refl (fixed refl (size p (i + captionsSize p i) (λ _. none))))
@@ -219,7 +219,7 @@ module _ {beside : ℕ → ℕ → Bool} (shorter : Shorter beside) where
       let at : ℕ = footerFrom (length p) p i in
       size p (i + 2)
       (λ _. both (futureChecks (length p) p i) (footerChecks p sequence at) (future-proper (length p) p i)
-      (size p (at + 4) (λ _. fixed refl (fixed refl none))))
+      (size p (at + footerSize) (λ _. fixed refl (fixed refl none))))
 
 -- rules that answer 1 where a size is another than what is said: a section alone, the header, and so a packet
 pub section-proper : (d : List ℕ) → Proper differ (sectionChecks d)
@@ -235,12 +235,12 @@ pub packet-proper : (p : List ℕ) → Proper differ (packetChecks p)
 unfolding packetChecks
 packet-proper p =
     let f : Flags = flagsIn p in
-    let time : List Check = when (f .«time_code») (timeCodeChecks p 7) in
+    let time : List Check = when (f .«time_code») (timeCodeChecks p timeCodeAt) in
     let captions : List Check = when (f .«cc_data») (captionsChecks p (captionsAt p)) in
     let services : List Check = when (f .«svc_info») (servicesChecks p f (servicesAt p)) in
     let closing : List Check = closingChecks p (sequenceIn p) (closingAt p) in
     both (headerChecks p) (time ++ (captions ++ (services ++ closing))) (header-proper p)
-    (both time (captions ++ (services ++ closing)) (where-there (f .«time_code») (time-code-proper shorter-differs p 7))
+    (both time (captions ++ (services ++ closing)) (where-there (f .«time_code») (time-code-proper shorter-differs p timeCodeAt))
     (both captions (services ++ closing) (where-there (f .«cc_data») (captions-proper shorter-differs p (captionsAt p)))
     (both services closing (where-there (f .«svc_info») (services-proper shorter-differs p f (servicesAt p)))
     (closing-proper shorter-differs p (sequenceIn p) (closingAt p)))))

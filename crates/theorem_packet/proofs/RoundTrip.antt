@@ -61,7 +61,7 @@ use Rattle.reader.specs.declared.parser.CDPParser.{CDPParser}
 use Rattle.service_list.specs.declared.list.ServiceInfo.{ServiceInfo}
 use Rattle.values.specs.declared.flags.Flags.{Flags}
 use Rattle.values.specs.declared.framerate.Framerate.{Framerate}
-use Rattle.values.specs.Layout.{captionRoom}
+use Rattle.values.specs.Layout.{captionRoom, footerSize, headerSize, timeCodeSize}
 use Rattle.writer.specs.declared.writer.CDPWriter.{CDPWriter}
 
 six : (a b c d e f : List ℕ) → a ++ b ++ c ++ d ++ e ++ f ≡ a ++ (b ++ (c ++ (d ++ (e ++ f))))
@@ -108,7 +108,7 @@ module _ (w : CDPWriter) (rate : Framerate) (captions : List ℕ)
   first = timeCodeBytes (w .«time_code») ++ second
 
   abbrev captionsFrom : ℕ
-  captionsFrom = 7 + Checks.timeCodeLength (w .«time_code»)
+  captionsFrom = headerSize + Checks.timeCodeLength (w .«time_code»)
 
   abbrev servicesFrom : ℕ
   servicesFrom = captionsFrom + (2 + run)
@@ -122,15 +122,15 @@ module _ (w : CDPWriter) (rate : Framerate) (captions : List ℕ)
       six header (timeCodeBytes (w .«time_code»)) (captionsBytes captions) (servicesBytes (w .«service_info»))
       (footerBytes (w .sequence)) (sum ∷ [])
 
-  long : length p ≡ footerFrom + 4
+  long : length p ≡ footerFrom + footerSize
   long = packet-length rate (w .sequence) (w .«time_code») (w .«service_info») captions
 
-  at-time : drop 7 p ≡ first
-  at-time = ap (drop 7) laid
+  at-time : drop headerSize p ≡ first
+  at-time = ap (drop headerSize) laid
 
   at-captions : drop captionsFrom p ≡ second
   at-captions =
-      further-on p 7 (timeCodeBytes (w .«time_code»)) second at-time (Checks.timeCodeLength (w .«time_code»))
+      further-on p headerSize (timeCodeBytes (w .«time_code»)) second at-time (Checks.timeCodeLength (w .«time_code»))
       (sym (time-length (w .«time_code»)))
 
   at-services : drop servicesFrom p ≡ third
@@ -167,14 +167,14 @@ module _ (w : CDPWriter) (rate : Framerate) (captions : List ℕ)
       (sym size)
 
   -- the time code
-  time : TimeHere p 7 (w .«time_code» .present) (w .«time_code» .«time_code»)
+  time : TimeHere p headerSize (w .«time_code» .present) (w .«time_code» .«time_code»)
   time =
-      time-here p 7 (w .«time_code» .present) (w .«time_code» .«time_code») second at-time (holds .timed)
+      time-here p headerSize (w .«time_code» .present) (w .«time_code» .«time_code») second at-time (holds .timed)
       (omega (arith, long))
 
   -- the captions
   captions-at : captionsAt p ≡ captionsFrom
-  captions-at = ap (λ (f : Flags). 7 + sizeWhen (f .«time_code») 5) flags
+  captions-at = ap (λ (f : Flags). headerSize + sizeWhen (f .«time_code») timeCodeSize) flags
 
   captions-right : verdict (when (flagsIn p .«cc_data») (captionsChecks p (captionsAt p))) ≡ clear
   captions-right =
@@ -233,7 +233,7 @@ module _ (w : CDPWriter) (rate : Framerate) (captions : List ℕ)
       in-order p
       ∙ rw (
         header-right,
-        ap (λ (f : Flags). verdict (when (f .«time_code») (timeCodeChecks p 7))) flags ∙ time .right,
+        ap (λ (f : Flags). verdict (when (f .«time_code») (timeCodeChecks p headerSize))) flags ∙ time .right,
         captions-right,
         services-right,
         footer-right,
@@ -243,8 +243,8 @@ module _ (w : CDPWriter) (rate : Framerate) (captions : List ℕ)
   shown : Languages w → shownBy p ≡ shownBack w rate
   unfolding shownBy
   shown languages =
-      let timed : timeCodeOf p (flagsIn p .«time_code») 7 ≡ heldTime (w .«time_code») =
-      ap (λ (f : Flags). timeCodeOf p (f .«time_code») 7) flags ∙ time .shown in
+      let timed : timeCodeOf p (flagsIn p .«time_code») headerSize ≡ heldTime (w .«time_code») =
+      ap (λ (f : Flags). timeCodeOf p (f .«time_code») headerSize) flags ∙ time .shown in
       rw (rated, timed, sequence, services-shown languages)
 
   module _ (s : CDPParser) (lent : List ℕ) (room : captionRoom ≤ length lent) where

@@ -14,7 +14,7 @@ use Rattle.basis.proofs.Verdicts.{done-clear, done-value, kept-first, kept-rest
 use Rattle.basis.specs.Answer.{NotWritable}
 use Rattle.basis.specs.Bytes.{byte}
 use Rattle.basis.specs.Check.{Check, check, clear, verdict}
-use Rattle.values.specs.Layout.{captionsId, servicesId, timeCodeId, sectionLength}
+use Rattle.values.specs.Layout.{captionsId, servicesId, timeCodeId, sectionLength, timeCodeSize}
 use Rattle.values_time.specs.Time.{noTime, timeBytes, timeChecks, timeOf, timeRead, timeWriteChecks}
 use Rattle.values_time.specs.Code.{InRange}
 use Rattle.service_list.proofs.SectionBack.{byte-back, count-back, list-back, named, section-verdict}
@@ -77,7 +77,7 @@ module _ (p : List ℕ) (i : ℕ) (t : TimeCode) (rest : List ℕ) (h : drop i p
   id : byte p i ≡ timeCodeId
   id = rw add-zero at (byte-on p i bytes h 0)
 
-  pub time-clear : i + 5 ≤ length p → verdict (timeCodeChecks p i) ≡ clear
+  pub time-clear : i + timeCodeSize ≤ length p → verdict (timeCodeChecks p i) ≡ clear
   time-clear fits =
       simp (
         le-leb _ _ fits,

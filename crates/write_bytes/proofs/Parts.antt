@@ -14,7 +14,7 @@ use Rattle.basis.specs.Bytes.{over}
 use Rattle.basis.specs.Code.{put}
 use Rattle.basis.specs.Check.{Verdict, clear, ifClear, sizeWhen, verdict}
 use Rattle.values.specs.Checksum.{negative, total}
-use Rattle.values.specs.Layout.{captionsId, timeCodeId, sectionLength}
+use Rattle.values.specs.Layout.{captionsId, timeCodeId, sectionLength, footerSize, headerSize, sectionHeadSize, timeCodeSize}
 use Rattle.values_time.specs.Time.{timeBytes, timeWriteChecks, timeWritten}
 use Rattle.service_list.proofs.SectionWrites.{section-fits, section-length}
 use Rattle.service_list.specs.SectionWriting.{sectionBytes, sectionWritten, valueChecks}
@@ -67,7 +67,7 @@ module _ (at : ℕ) (buffer : List ℕ) where
 
   pub time-absent : (time : MaybeTimeCode) → time .present ≡ false
       → PutAt at (timeCodeLength time) (timeCodeBytes time) buffer at buffer
-  time-absent time a = nothing-put (time .present) (timeCodeId ∷ timeBytes (time .«time_code»)) 5 a
+  time-absent time a = nothing-put (time .present) (timeCodeId ∷ timeBytes (time .«time_code»)) timeCodeSize a
 
   pub services-absent : (services : MaybeServiceInfo) → services .present ≡ false
       → PutAt at (servicesLength services) (servicesBytes services) buffer at buffer
@@ -81,10 +81,10 @@ module _ (at : ℕ) (buffer : List ℕ) where
         ap (λ (v : Verdict). ifClear v (timeBytes (time .«time_code»)) (0 ∷ 0 ∷ 0 ∷ 0 ∷ []))
         (when-there (time .present) (timeWriteChecks (time .«time_code»)) held right)
 
-    pub time-put : PutAt at (timeCodeLength time) (timeCodeBytes time) buffer (at + 5)
+    pub time-put : PutAt at (timeCodeLength time) (timeCodeBytes time) buffer (at + timeCodeSize)
         (put (at + 1) (timeWritten (time .«time_code») .bytes) (put at (timeCodeId ∷ []) buffer))
     time-put =
-        let fits : at + 5 ≤ length buffer = rw held at room in
+        let fits : at + timeCodeSize ≤ length buffer = rw held at room in
         (rw held, rw (held, time-bytes) (put-put at (timeCodeId ∷ []) (timeBytes (time .«time_code»)) buffer fits))
 
   module _ (captions : List ℕ) (room : at + (2 + length captions) ≤ length buffer) where
@@ -113,7 +113,7 @@ module _ (at : ℕ) (buffer : List ℕ) where
         let left = section-fits list rest own (omega (arith, long)) in
         (rw (held, ← left .0), rw (held, ← left .1) (part-over at (sectionBytes list) buffer))
 
-  module _ (sequence : ℕ) (room : at + 4 ≤ length buffer) where
+  module _ (sequence : ℕ) (room : at + footerSize ≤ length buffer) where
     abbrev footer : List ℕ
     footer = footerBytes sequence
 
@@ -141,7 +141,7 @@ cond-length true bytes size e = e
 cond-length false bytes size e = omega arith
 
 pub time-length : (time : MaybeTimeCode) → length (timeCodeBytes time) ≡ timeCodeLength time
-time-length time = cond-length (time .present) (timeCodeId ∷ timeBytes (time .«time_code»)) 5 (omega arith)
+time-length time = cond-length (time .present) (timeCodeId ∷ timeBytes (time .«time_code»)) timeCodeSize (omega arith)
 
 pub services-length : (services : MaybeServiceInfo) → length (servicesBytes services) ≡ servicesLength services
 services-length services =
@@ -163,7 +163,7 @@ module _ (rate : Framerate) (sequence : ℕ) (time : MaybeTimeCode) (services : 
   abbrev front : List ℕ
   front = header ++ times ++ captionsBytes captions ++ section
 
-  front-length : length front ≡ 7 + timeCodeLength time + (2 + length captions) + servicesLength services
+  front-length : length front ≡ headerSize + timeCodeLength time + (sectionHeadSize + length captions) + servicesLength services
   front-length =
       simp (length-append, time-length time, services-length services) (omega arith)
 
@@ -173,8 +173,8 @@ module _ (rate : Framerate) (sequence : ℕ) (time : MaybeTimeCode) (services : 
   packet-length = simp (length-append, time-length time, services-length services) (omega arith)
 
   -- each part stands where the one before it ends, so that together they are the packet
-  pub packet-put : (buffer b1 b2 b3 b4 b5 : List ℕ) (a3 a4 a5 : ℕ) → 7 ≤ length buffer → b1 ≡ put 0 header buffer
-      → PutAt 7 (timeCodeLength time) times b1 a3 b2
+  pub packet-put : (buffer b1 b2 b3 b4 b5 : List ℕ) (a3 a4 a5 : ℕ) → headerSize ≤ length buffer → b1 ≡ put 0 header buffer
+      → PutAt headerSize (timeCodeLength time) times b1 a3 b2
       → PutAt a3 (2 + length captions) (captionsBytes captions) b2 a4 b3
       → PutAt a4 (servicesLength services) section b3 a5 b4
       → b5 ≡ over a5 (footerBytes sequence ++ negative (total (take a5 b4 ++ footerBytes sequence)) ∷ []) b4
@@ -184,7 +184,7 @@ module _ (rate : Framerate) (sequence : ℕ) (time : MaybeTimeCode) (services : 
       let long-times = time-length time in
       let f1 : b1 ≡ over 0 header buffer = e1 ∙ put-fits 0 header buffer room in
       let f2 : b2 ≡ over 0 (header ++ times) buffer =
-      e2 .1 ∙ ap (over 7 times) f1 ∙ behind header times buffer 7 (omega arith) in
+      e2 .1 ∙ ap (over headerSize times) f1 ∙ behind header times buffer headerSize (omega arith) in
       let f3 : b3 ≡ over 0 (header ++ times ++ captionsBytes captions) buffer =
       e3 .1
       ∙ ap (over a3 (captionsBytes captions)) f2

@@ -46,7 +46,7 @@ use Rattle.service_list.specs.declared.list.ServiceInfo.{ServiceInfo}
 use Rattle.basis.specs.declared.answer.Answer.{Answer}
 use Rattle.values.specs.declared.framerate.Framerate.{Framerate}
 use Rattle.values.specs.declared.framerate.MaybeFramerate.{MaybeFramerate}
-use Rattle.values.specs.Layout.{sectionLength}
+use Rattle.values.specs.Layout.{sectionLength, timeCodeSize}
 use Rattle.values_time.specs.declared.time.MaybeTimeCode.{MaybeTimeCode}
 
 -- an answer and a length
@@ -72,18 +72,18 @@ module _ (present : Bool) (cs : List Check) (size : ℕ) where
 module _ (time : MaybeTimeCode) where
   pub no-time : time .present ≡ false → withoutLength (done 0) ≡ timeCodeWriteTested time
   unfolding timeCodeWriteTested
-  no-time a = not-held (time .present) (timeWriteChecks (time .«time_code»)) 5 a
+  no-time a = not-held (time .present) (timeWriteChecks (time .«time_code»)) timeCodeSize a
 
   module _ (held : time .present ≡ true) where
     pub bad-time : eqb (timeWritten (time .«time_code») .answer .number) 0 ≡ false
         → withoutLength (timeWritten (time .«time_code») .answer) ≡ timeCodeWriteTested time
     unfolding timeWritten timeCodeWriteTested
-    bad-time h = held-refused (time .present) (timeWriteChecks (time .«time_code»)) 5 held h
+    bad-time h = held-refused (time .present) (timeWriteChecks (time .«time_code»)) timeCodeSize held h
 
     pub good-time : eqb (timeWritten (time .«time_code») .answer .number) 0 ≡ true
-        → measured (timeWritten (time .«time_code») .answer) 5 ≡ timeCodeWriteTested time
+        → measured (timeWritten (time .«time_code») .answer) timeCodeSize ≡ timeCodeWriteTested time
     unfolding timeWritten timeCodeWriteTested
-    good-time h = held-done (time .present) (timeWriteChecks (time .«time_code»)) 5 held h
+    good-time h = held-done (time .present) (timeWriteChecks (time .«time_code»)) timeCodeSize held h
 
 module _ (services : MaybeServiceInfo) where
   abbrev list : ServiceInfo
@@ -113,21 +113,21 @@ services-most true l h =
     omega arith
 services-most false l h = omega arith
 
-time-most : (present : Bool) → sizeWhen present 5 ≤ 5
+time-most : (present : Bool) → sizeWhen present timeCodeSize ≤ timeCodeSize
 time-most true = omega arith
 time-most false = omega arith
 
 services-held-most : (services : MaybeServiceInfo) → verdict (servicesWriteChecks services) ≡ clear → servicesLength services ≤ 107
 services-held-most services h = services-most (services .present) (services .«service_info») h
 
-time-code-most : (time : MaybeTimeCode) → timeCodeLength time ≤ 5
+time-code-most : (time : MaybeTimeCode) → timeCodeLength time ≤ timeCodeSize
 time-code-most time = time-most (time .present)
 
 -- the two lengths beside 0, as they are added up
 pub record Sizes (t s : WriteTested) (time : MaybeTimeCode) (services : MaybeServiceInfo) : Type 0 where
   pub time-is : t .length ≡ timeCodeLength time
   pub services-is : s .length ≡ servicesLength services
-  pub time-few : timeCodeLength time ≤ 5
+  pub time-few : timeCodeLength time ≤ timeCodeSize
   pub services-few : servicesLength services ≤ 107
 
 pub sizes : (t s : WriteTested) (time : MaybeTimeCode) (services : MaybeServiceInfo) → t ≡ timeCodeWriteTested time

@@ -17,6 +17,7 @@ use Rattle.write_checks.proofs.Tests.{
   time-refused,
 }
 use Rattle.values.specs.Rate.{known}
+use Rattle.values.specs.Layout.{footerSize, headerSize, sectionHeadSize}
 use Rattle.write_checks.specs.Checks.{packetLength, servicesLength, timeCodeLength}
 use Rattle.service_list.specs.declared.list.MaybeServiceInfo.{MaybeServiceInfo}
 use Rattle.values_time.specs.declared.time.MaybeTimeCode.{MaybeTimeCode}
@@ -78,7 +79,7 @@ both-sizes c =
 
 -- the length as the code adds it up
 added : (t s : ℕ) (time : MaybeTimeCode) (services : MaybeServiceInfo) (run : ℕ) → t ≡ timeCodeLength time
-    → s ≡ servicesLength services → 7 + t + (2 + run) + s + 4 ≡ packetLength time services run
+    → s ≡ servicesLength services → headerSize + t + (sectionHeadSize + run) + s + footerSize ≡ packetLength time services run
 added t s time services run a b = rw (a, b)
 
 is-known-requires : tie.Need-is-known-requires

@@ -15,6 +15,7 @@ use Rattle.basis.specs.Code.{sized}
 use Rattle.read_time_code.specs.declared.time_code.TimeCodeSection.{TimeCodeSection}
 use Rattle.basis.specs.Check.{sizeWhen}
 use Rattle.basis.specs.declared.tested.Tested.{Tested}
+use Rattle.values.specs.Layout.{timeCodeSize}
 use Rattle.read_header.specs.Header.{flagsIn}
 use Rattle.read_packet.proofs.PacketReads.{
   captionsAsked,
@@ -109,7 +110,7 @@ time-code-result : (c : tie.Else2) → time-code-read (c .before) .parse2 .resul
 time-code-result c = time-code-asked (c .before) ∙ time-code-is _ (time-code-kept c)
 
 time-code-size : (c : tie.Else2)
-    → time-code-read (c .before) .parse2 .result .size ≡ sizeWhen (flagsIn (packet2 (c .before)) .«time_code») 5
+    → time-code-read (c .before) .parse2 .result .size ≡ sizeWhen (flagsIn (packet2 (c .before)) .«time_code») timeCodeSize
 time-code-size c = ap (λ (r : TimeCodeSection). r .size) (time-code-result c)
 
 abbrev packet3 : tie.After-is-done3 → List ℕ
