@@ -2,7 +2,21 @@
 use mathlib.Core.List.{List, [], _∷_}
 use Prim.Native.Nat.{ℕ, _-_}
 use lib.ListN.{length}
-use Rattle.basis.specs.Answer.{done, refused, ChecksumFailed, InvalidFixedBits, InvalidServiceNumber, NotWritable, SequenceCountMismatch, ServiceFlagsMismatched, ServiceNumberMismatch, UnknownFramerate, WouldOverflow, WrongCaptionRun, WrongMagic}
+use Rattle.basis.specs.Answer.{
+  done,
+  refused,
+  ChecksumFailed,
+  InvalidFixedBits,
+  InvalidServiceNumber,
+  NotWritable,
+  SequenceCountMismatch,
+  ServiceFlagsMismatched,
+  ServiceNumberMismatch,
+  UnknownFramerate,
+  WouldOverflow,
+  WrongCaptionRun,
+  WrongMagic,
+}
 use Rattle.basis.specs.declared.answer.Answer.{Answer}
 use Rattle.basis.specs.declared.tested.Tested.{Tested}
 use Rattle.basis.specs.Check.{roomCheck, Verdict, verdict, answer, ifClear}

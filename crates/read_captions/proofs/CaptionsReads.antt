@@ -56,7 +56,8 @@ module _ (p : List ℕ) (i : ℕ) where
           unfolding captionsTested
           captions-cut a = simp (there, le-leb _ _ long, eq-eqb _ _ id, eq-eqb _ _ fixed, as-count, lt-leb _ _ a)
 
-          pub captions-whole : i + (sectionHeadSize + tripletSize * count) ≤ length p → sized (sectionHeadSize + tripletSize * count) ≡ captionsTested p present i
+          pub captions-whole : i + (sectionHeadSize + tripletSize * count) ≤ length p
+              → sized (sectionHeadSize + tripletSize * count) ≡ captionsTested p present i
           unfolding captionsTested
           captions-whole a = simp (there, le-leb _ _ long, eq-eqb _ _ id, eq-eqb _ _ fixed, as-count, le-leb _ _ a)
 

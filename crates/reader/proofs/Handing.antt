@@ -31,7 +31,8 @@ module _ (p : List ℕ) (i : ℕ) (buffer : List ℕ) (present : Bool) where
   abbrev tail : List ℕ
   tail = part (i + sectionHeadSize) (i + (sectionHeadSize + tripletSize * count) - (i + sectionHeadSize)) p
 
-  module _ (there : present ≡ true) (fits : i + (sectionHeadSize + tripletSize * count) ≤ length p) (room : captionRoom ≤ length buffer) where
+  module _ (there : present ≡ true) (fits : i + (sectionHeadSize + tripletSize * count) ≤ length p)
+      (room : captionRoom ≤ length buffer) where
     as-count : byte p (i + 1) / 1 % 32 ≡ count
     as-count = omega arith
 

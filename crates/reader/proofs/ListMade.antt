@@ -88,7 +88,8 @@ module _ (p : List ℕ) (f : Flags) (i : ℕ) where
   unfolding filled
   list-absent = refl
 
-  fits : (on : Bool) → (on ≡ true → verdict (servicesChecks p f i) ≡ clear) → sectionEntrySize * (headerOf on % 16) ≤ length p - (i + sectionHeadSize)
+  fits : (on : Bool) → (on ≡ true → verdict (servicesChecks p f i) ≡ clear)
+      → sectionEntrySize * (headerOf on % 16) ≤ length p - (i + sectionHeadSize)
   fits true kept = omega (arith, there (kept refl))
   fits false kept = omega arith
 

@@ -1,4 +1,5 @@
--- Follows the code and not the rules: what stands beside a refusal; and an entry's bytes, which calls make of any number, and which hold its low bits.
+-- Follows the code and not the rules: what stands beside a refusal; and an entry's bytes, which calls make of any number,
+-- and which hold its low bits.
 -- Of a number that can be written these are the number.
 use mathlib.Core.List.{List, _∷_}
 use Prim.Native.Nat.{ℕ, _%_}

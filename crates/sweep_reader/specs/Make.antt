@@ -18,7 +18,8 @@ fieldMade k = eqb (k % 3) 2
 -- the seven bytes of service k in a packet; all have flags, which a field drops
 abbrev pub entryMade : ℕ → ℕ → List ℕ
 entryMade packet k =
-    (0x80 + madeNumber (fieldMade k) k) ∷ (0x61 + k % 16) ∷ (0x61 + packet % 16) ∷ 0x7A ∷ madeKind (fieldMade k) (k / 3) k ∷ (k % 4 * 0x40 + 0x3F) ∷ 0xFF ∷ []
+    (0x80 + madeNumber (fieldMade k) k) ∷ (0x61 + k % 16) ∷ (0x61 + packet % 16) ∷ 0x7A
+    ∷ madeKind (fieldMade k) (k / 3) k ∷ (k % 4 * 0x40 + 0x3F) ∷ 0xFF ∷ []
 
 unfoldable pub entriesMade : ℕ → ℕ → List ℕ
 entriesMade packet zero = []

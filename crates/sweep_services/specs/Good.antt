@@ -27,7 +27,8 @@ goodFlags k = k % 2 * 0x80 + k % 3 % 2 * 0x40 + 0x3F
 -- the bytes of entry k before its last, which is FF
 abbrev pub entryStart : ℕ → List ℕ
 entryStart k =
-    (madeNumber (goodField k) k + 0x80) ∷ (0x61 + k % 16) ∷ (0x71 + k % 16) ∷ (0x81 + k % 16) ∷ madeKind (goodField k) (k / 4) k ∷ goodFlags k ∷ []
+    (madeNumber (goodField k) k + 0x80) ∷ (0x61 + k % 16) ∷ (0x71 + k % 16) ∷ (0x81 + k % 16)
+    ∷ madeKind (goodField k) (k / 4) k ∷ goodFlags k ∷ []
 
 unfoldable pub entryByte : ℕ → ℕ → ℕ
 entryByte k place = getD (entryStart k) place 0xFF

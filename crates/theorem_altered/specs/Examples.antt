@@ -69,7 +69,11 @@ pub record Examples : Type 0 where
   pub servicesDiffer : calls firstOf (examplesTwins withSpanish) ≡ calls secondOf (examplesTwins withSpanish) → ⊥
   pub bothDiffer : calls firstOf (examplesTwins withBoth) ≡ calls secondOf (examplesTwins withBoth) → ⊥
   -- the answers are the same, and the refusal keeps the list that is there: English packetBefore, Spanish after
-  pub answered : answers (runCalls freshReader (calls firstOf (examplesTwins withSpanish))) ≡ done 5 ∷ refused ChecksumFailed ∷ done 0 ∷ []
-  pub answeredAfter : answers (runCalls freshReader (calls secondOf (examplesTwins withSpanish))) ≡ done 5 ∷ refused ChecksumFailed ∷ done 0 ∷ []
-  pub listed : lists (runCalls freshReader (calls firstOf (examplesTwins withSpanish))) ≡ listPresent (listOf english) ∷ listPresent (listOf english) ∷ listAbsent ∷ []
-  pub listedAfter : lists (runCalls freshReader (calls secondOf (examplesTwins withSpanish))) ≡ listPresent (listOf spanish) ∷ listPresent (listOf spanish) ∷ listAbsent ∷ []
+  pub answered : answers (runCalls freshReader (calls firstOf (examplesTwins withSpanish)))
+      ≡ done 5 ∷ refused ChecksumFailed ∷ done 0 ∷ []
+  pub answeredAfter : answers (runCalls freshReader (calls secondOf (examplesTwins withSpanish)))
+      ≡ done 5 ∷ refused ChecksumFailed ∷ done 0 ∷ []
+  pub listed : lists (runCalls freshReader (calls firstOf (examplesTwins withSpanish)))
+      ≡ listPresent (listOf english) ∷ listPresent (listOf english) ∷ listAbsent ∷ []
+  pub listedAfter : lists (runCalls freshReader (calls secondOf (examplesTwins withSpanish)))
+      ≡ listPresent (listOf spanish) ∷ listPresent (listOf spanish) ∷ listAbsent ∷ []

@@ -20,17 +20,17 @@ use Rattle.service_list.specs.SectionWriting.{sectionBytes, sectionWritten, val
 use Rattle.service_list.specs.Code.{valueAnswer}
 use Rattle.reader.proofs.PacketShown.{checks-answer}
 use Rattle.reader.proofs.Refusals as Refusals
-use Rattle.read_captions.specs.Code as CcSectionCode
-use Rattle.read_header.specs.Code as HeaderCode
-use Rattle.read_time_code.specs.Code as TimeSectionCode
-use Rattle.read_closing.specs.Code as FooterCode
-use Rattle.read_services.specs.Code as SvcSectionCode
+use Rattle.read_captions.specs.Code as ReadCaptions
+use Rattle.read_header.specs.Code as ReadHeader
+use Rattle.read_time_code.specs.Code as ReadTimeCode
+use Rattle.read_closing.specs.Code as ReadClosing
+use Rattle.read_services.specs.Code as ReadServices
 use Rattle.read_packet.specs.Packet.{captionsLength}
 use Rattle.reader.specs.Code.{packetRead}
 use Rattle.reader.specs.Reader.{read}
 use Rattle.write_bytes.proofs.PacketWrites as PacketWrites
 use Rattle.write_checks.specs.Checks as Checks
-use Rattle.write_checks.specs.Code as PacketChecksCode
+use Rattle.write_checks.specs.Code as WriteChecks
 use Rattle.write_bytes.specs.PacketWriting as Writing
 use Rattle.writer.specs.Writer.{setServiceInfo}
 use Rattle.theorem_packet.proofs.Proper.{
@@ -94,10 +94,10 @@ abbrev entryVerdict : ServiceEntry → List ℕ → Verdict
 entryVerdict e buffer = verdict (entryCheck e ∷ roomCheck 6 (length buffer) ∷ [])
 
 pub first-demand : FirstDemand
-unfolding read packetRead HeaderCode.headerRead TimeSectionCode.timeCodeRead CcSectionCode.captionsTested
-    SvcSectionCode.servicesTested FooterCode.closingRead sectionAnswer entriesRead Section.sectionRead Entry.entryRead
+unfolding read packetRead ReadHeader.headerRead ReadTimeCode.timeCodeRead ReadCaptions.captionsTested
+    ReadServices.servicesTested ReadClosing.closingRead sectionAnswer entriesRead Section.sectionRead Entry.entryRead
     Time.timeRead Time.timeWritten Writing.packetWritten sectionWritten entryWritten valueAnswer setServiceInfo
-    PacketChecksCode.packetWriteTested putAnswer put
+    WriteChecks.packetWriteTested putAnswer put
 first-demand =
     record {
       packetRead = λ s p lent. with-length differ (read-proper p lent) (captionsLength p);

@@ -10,15 +10,15 @@ use Rattle.values_time.specs.Time as Time
 use Rattle.service_entry.specs.Entry as Entry
 use Rattle.service_entry.specs.Service.{filler}
 use Rattle.service_entries.specs.Entries as Entries
-use Rattle.service_entries.specs.Code as SvcEntriesCode
+use Rattle.service_entries.specs.Code as ServiceEntries
 use Rattle.service_list.specs.Section as Section
 use Rattle.service_list.specs.ServiceList.{empty}
 use Rattle.read_time_code.specs.TimeCode as TimeCode
-use Rattle.read_time_code.specs.Code as TimeSectionCode
+use Rattle.read_time_code.specs.Code as ReadTimeCode
 use Rattle.read_closing.proofs.FooterFound.{checksum-kept}
 use Rattle.read_header.specs.Header.{sequenceIn}
 use Rattle.read_packet.proofs.PacketReads.{closing-of-packet, given}
-use Rattle.read_packet.specs.Code as CheckedCode
+use Rattle.read_packet.specs.Code as ReadPacket
 use Rattle.read_packet.specs.Packet.{captionsLength, closingAt, packetChecks}
 use Rattle.reader.proofs.Refusals.{list-only-from-accepted, no-list-from-bad-checksum}
 use Rattle.reader.specs.Code as ReaderCode
@@ -44,8 +44,8 @@ no-time-code clear length shown done-so h = absurd (true≢false (sym done-so �
 no-time-code (broken why) length shown done-so h = refl
 
 pub nothing-from-refused : NothingFromRefused
-unfolding Entry.entryRead SvcEntriesCode.entriesRead Section.sectionRead ReaderCode.packetRead Time.timeRead
-    TimeSectionCode.timeCodeRead CheckedCode.checkedRead
+unfolding Entry.entryRead ServiceEntries.entriesRead Section.sectionRead ReaderCode.packetRead Time.timeRead
+    ReadTimeCode.timeCodeRead ReadPacket.checkedRead
 nothing-from-refused =
     record {
       entryRead = λ bytes h. beside (verdict (Entry.entryChecks bytes)) 0 (Entry.entryOf bytes) filler h;
@@ -63,7 +63,7 @@ nothing-from-refused =
           beside (verdict (when present (TimeCode.timeCodeChecks p i))) 0
           (TimeCode.timeCodeOf p present i) Time.timeAbsent h;
       checkedRead =
-          λ p h. no-time-code (verdict (packetChecks p)) (captionsLength p) (CheckedCode.checkedShown p) refl h;
+          λ p h. no-time-code (verdict (packetChecks p)) (captionsLength p) (ReadPacket.checkedShown p) refl h;
       badChecksum = λ p wrong. unless (verdict (packetChecks p)) (shownBy p) freshReader
           (λ v. wrong (checksum-kept p (sequenceIn p) (closingAt p) (closing-of-packet p v)));
       badChecksumKept = no-list-from-bad-checksum;

@@ -31,7 +31,8 @@ numbers number first second = record { number = number; first = first; second = 
 -- a packet with no captions, read on any state and with any caption buffer of at least 95 bytes: the answer, the state, made
 -- of the one before, and the buffer as it was
 pub record Reads (p : List ℕ) (answered : Answer) (after : CDPParser → CDPParser) : Type 0 where
-  pub gives : (s : CDPParser) (buffer : List ℕ) → captionRoom ≤ length buffer → read s p (length buffer) ≡ record { answer = answered; parser = after s }
+  pub gives : (s : CDPParser) (buffer : List ℕ) → captionRoom ≤ length buffer
+      → read s p (length buffer) ≡ record { answer = answered; parser = after s }
   pub keeps : (buffer : List ℕ) → captionRoom ≤ length buffer → bufferAfter p buffer ≡ buffer
 
 -- what an accepted packet leaves of the state before it: nothing
@@ -80,11 +81,15 @@ pub record Cases : Type 0 where
   pub p6 : (last : ℕ)
       → Reads (0x96 ∷ 0x69 ∷ 0x0C ∷ 0x3F ∷ 0x00 ∷ 0x00 ∷ 0x00 ∷ 0x74 ∷ 0x00 ∷ 0x00 ∷ 0x21 ∷ last ∷ []) (numbers 0 0 0) (shows rateAlone)
   -- a future section of no bytes
-  pub p7 : Reads (0x96 ∷ 0x69 ∷ 0x0D ∷ 0x3F ∷ 0x01 ∷ 0x00 ∷ 0x00 ∷ 0x75 ∷ 0x00 ∷ 0x74 ∷ 0x00 ∷ 0x00 ∷ 0xCB ∷ []) (numbers 0 0 0) (shows rateAlone)
+  pub p7 : Reads (0x96 ∷ 0x69 ∷ 0x0D ∷ 0x3F ∷ 0x01 ∷ 0x00 ∷ 0x00 ∷ 0x75 ∷ 0x00 ∷ 0x74 ∷ 0x00 ∷ 0x00 ∷ 0xCB ∷ [])
+      (numbers 0 0 0) (shows rateAlone)
   -- hours byte FF, beside any bytes that rule 5 takes: three tens, and 15 units that are taken
   pub p8 : (minutes seconds frames : ℕ) → verdict (timeChecks 0xFF minutes seconds frames) ≡ clear
       → timeRead 0xFF minutes seconds frames
-      ≡ record { answer = numbers 0 0 0; «time_code» = timeCode 45 (digits 3 minutes) (digits 3 seconds) (digits 2 frames) (allSet x80 seconds) (allSet x80 frames) }
+      ≡ record {
+        answer = numbers 0 0 0;
+        «time_code» = timeCode 45 (digits 3 minutes) (digits 3 seconds) (digits 2 frames) (allSet x80 seconds) (allSet x80 frames);
+      }
   -- and once in a packet
   pub p8-packet : Reads hoursFF (numbers 0 0 0) (shows (rateWith (timePresent (timeCode 45 20 30 12 true true))))
   -- a digital service with number 0

@@ -9,20 +9,20 @@ use Rattle.basis.specs.Code.{put, putAnswer}
 use Rattle.values_time.specs.Time as Time
 use Rattle.service_entry.specs.Entry as Entry
 use Rattle.service_entry.specs.EntryWriting as EntryWriting
-use Rattle.service_entries.specs.Code as SvcEntriesCode
+use Rattle.service_entries.specs.Code as ServiceEntries
 use Rattle.service_list.specs.Section as Section
 use Rattle.service_list.specs.ServiceList as ServiceList
 use Rattle.service_list.specs.SectionWriting as SectionWriting
-use Rattle.service_list.specs.Code as ServicesCode
-use Rattle.read_captions.specs.Code as CcSectionCode
-use Rattle.read_header.specs.Code as HeaderCode
-use Rattle.read_time_code.specs.Code as TimeSectionCode
-use Rattle.read_closing.specs.Code as FooterCode
-use Rattle.read_services.specs.Code as SvcSectionCode
-use Rattle.read_packet.specs.Code as CheckedCode
+use Rattle.service_list.specs.Code as ServiceListCode
+use Rattle.read_captions.specs.Code as ReadCaptions
+use Rattle.read_header.specs.Code as ReadHeader
+use Rattle.read_time_code.specs.Code as ReadTimeCode
+use Rattle.read_closing.specs.Code as ReadClosing
+use Rattle.read_services.specs.Code as ReadServices
+use Rattle.read_packet.specs.Code as ReadPacket
 use Rattle.reader.specs.Code as ReaderCode
 use Rattle.reader.specs.Reader.{bufferAfter, cleared, read}
-use Rattle.write_checks.specs.Code as PacketChecksCode
+use Rattle.write_checks.specs.Code as WriteChecks
 use Rattle.writer.specs.Writer.{heldWritten, setServiceInfo}
 use Rattle.basis.specs.declared.answer.Answer.{Answer}
 use Rattle.service_entry.specs.declared.entry.ServiceEntry.{ServiceEntry}
@@ -71,24 +71,28 @@ pub record FirstDemand : Type 0 where
   pub entryRead : (bytes : List ℕ) → inTable false never (Entry.entryRead bytes .answer) ≡ true
   pub timeRead : (hours minutes seconds frames : ℕ) → inTable false never (Time.timeRead hours minutes seconds frames .answer) ≡ true
   -- the parts of a packet, each read at any place, and the packet before its list is made and with no state
-  pub headerRead : (p : List ℕ) → inTable false differ (HeaderCode.headerRead p .answer) ≡ true
-  pub timeCodeRead : (p : List ℕ) (present : Bool) (i : ℕ) → inTable false smaller (TimeSectionCode.timeCodeRead p present i .answer) ≡ true
-  pub captionsTested : (p : List ℕ) (present : Bool) (i : ℕ) → inTable false smaller (CcSectionCode.captionsTested p present i .answer) ≡ true
-  pub servicesTested : (p : List ℕ) (f : Flags) (i : ℕ) → inTable false smaller (SvcSectionCode.servicesTested p f i .answer) ≡ true
-  pub closingRead : (p : List ℕ) (sequence i : ℕ) → inTable false smaller (FooterCode.closingRead p sequence i) ≡ true
-  pub sectionTested : (d : List ℕ) → inTable false differ (SvcEntriesCode.sectionAnswer d) ≡ true
-  pub entriesRead : (d : List ℕ) → inTable false differ (SvcEntriesCode.entriesRead d .answer) ≡ true
-  pub checkedRead : (p : List ℕ) → inTable true differ (CheckedCode.checkedRead p .answer) ≡ true
+  pub headerRead : (p : List ℕ) → inTable false differ (ReadHeader.headerRead p .answer) ≡ true
+  pub timeCodeRead : (p : List ℕ) (present : Bool) (i : ℕ)
+      → inTable false smaller (ReadTimeCode.timeCodeRead p present i .answer) ≡ true
+  pub captionsTested : (p : List ℕ) (present : Bool) (i : ℕ)
+      → inTable false smaller (ReadCaptions.captionsTested p present i .answer) ≡ true
+  pub servicesTested : (p : List ℕ) (f : Flags) (i : ℕ) → inTable false smaller (ReadServices.servicesTested p f i .answer) ≡ true
+  pub closingRead : (p : List ℕ) (sequence i : ℕ) → inTable false smaller (ReadClosing.closingRead p sequence i) ≡ true
+  pub sectionTested : (d : List ℕ) → inTable false differ (ServiceEntries.sectionAnswer d) ≡ true
+  pub entriesRead : (d : List ℕ) → inTable false differ (ServiceEntries.entriesRead d .answer) ≡ true
+  pub checkedRead : (p : List ℕ) → inTable true differ (ReadPacket.checkedRead p .answer) ≡ true
   pub statelessRead : (p : List ℕ) → inTable true differ (ReaderCode.packetRead p .answer) ≡ true
   -- whatever is to be written, or held, and whatever buffer is lent
-  pub packetAnswered : (w : CDPWriter) (rate : Framerate) (captions buffer : List ℕ) → inTable true never (heldWritten w rate captions buffer .answer) ≡ true
-  pub packetTested : (rate : Framerate) (time : MaybeTimeCode) (services : MaybeServiceInfo) (run : ℕ) → inTable false never (PacketChecksCode.packetWriteTested rate time services run .answer) ≡ true
+  pub packetAnswered : (w : CDPWriter) (rate : Framerate) (captions buffer : List ℕ)
+      → inTable true never (heldWritten w rate captions buffer .answer) ≡ true
+  pub packetTested : (rate : Framerate) (time : MaybeTimeCode) (services : MaybeServiceInfo) (run : ℕ)
+      → inTable false never (WriteChecks.packetWriteTested rate time services run .answer) ≡ true
   pub sectionAnswered : (l : ServiceInfo) (buffer : List ℕ) → inTable true never (SectionWriting.sectionWritten l buffer .answer) ≡ true
   pub entryAnswered : (e : ServiceEntry) (buffer : List ℕ) → inTable true never (EntryWriting.entryWritten e buffer .answer) ≡ true
   pub timeAnswered : (t : TimeCode) → inTable false never (Time.timeWritten t .answer) ≡ true
   pub listAdded : (l : ServiceInfo) (e : ServiceEntry) → inTable false never (ServiceList.added l e .answer) ≡ true
   pub listMeasured : (l : ServiceInfo) → inTable true never (ServiceList.byteLen l) ≡ true
-  pub listTested : (l : ServiceInfo) → inTable false never (ServicesCode.valueAnswer l) ≡ true
+  pub listTested : (l : ServiceInfo) → inTable false never (ServiceListCode.valueAnswer l) ≡ true
   pub listSet : (w : CDPWriter) (services : MaybeServiceInfo) → inTable false never (setServiceInfo w services .answer) ≡ true
   pub bytesPut : (at : ℕ) (bytes buffer : List ℕ) → inTable false never (putAnswer at bytes buffer) ≡ true
   -- a refusal writes no byte of a lent buffer
@@ -103,4 +107,5 @@ pub record FirstDemand : Type 0 where
   -- a reader's refusal clears rate, time code and sequence and keeps the list; 11 changes nothing
   pub readerClears : (s : CDPParser) (p buffer : List ℕ) → refuses (read s p (length buffer) .answer)
       → eqb (read s p (length buffer) .answer .number) 11 ≡ false → read s p (length buffer) .parser ≡ cleared s
-  pub readerStays : (s : CDPParser) (p buffer : List ℕ) → read s p (length buffer) .answer .number ≡ 11 → read s p (length buffer) .parser ≡ s
+  pub readerStays : (s : CDPParser) (p buffer : List ℕ) → read s p (length buffer) .answer .number ≡ 11
+      → read s p (length buffer) .parser ≡ s

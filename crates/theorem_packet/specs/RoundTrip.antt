@@ -49,6 +49,6 @@ abbrev pub captionsBack : List ℕ → List ℕ
 captionsBack captions = (0xC0 + length captions / 3) ∷ 0xFF ∷ captions
 
 -- reading answers 0 with the captions' length, shows the values, and leaves the captions at the start of the lent buffer
-pub record ReadBack (w : CDPWriter) (rate : Framerate) (captions : List ℕ) (lent : List ℕ) (got : CDPParserRead) (after : List ℕ) : Type 0 where
+pub record ReadBack (w : CDPWriter) (rate : Framerate) (captions lent : List ℕ) (got : CDPParserRead) (after : List ℕ) : Type 0 where
   pub read : got ≡ record { answer = done (2 + length captions); parser = shownBack w rate }
   pub handed : after ≡ over 0 (captionsBack captions) lent

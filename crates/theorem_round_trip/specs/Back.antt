@@ -27,4 +27,5 @@ pub record WrittenAndRead (w : CDPWriter) (rate : Framerate) (captions buffer : 
       → fieldTwo (w .«service_info») ≡ false → ReadBack w rate captions lent got lentAfter
   -- one does: 7, and what any refusal leaves
   pub field-two : eqb (heldWritten w rate captions buffer .answer .number) 0 ≡ true → captionRoom ≤ length lent
-      → fieldTwo (w .«service_info») ≡ true → (got ≡ record { answer = refused ServiceNumberMismatch; parser = cleared s }) × (lentAfter ≡ lent)
+      → fieldTwo (w .«service_info») ≡ true
+      → (got ≡ record { answer = refused ServiceNumberMismatch; parser = cleared s }) × (lentAfter ≡ lent)

@@ -71,4 +71,7 @@ unfoldable pub packetWritten : Framerate → ℕ → MaybeTimeCode → MaybeServ
 packetWritten rate sequence time services captions buffer =
     let run = length captions in
     let v = verdict (packetWriteChecks rate time services run ++ roomCheck (packetLength time services run) (length buffer) ∷ []) in
-    record { answer = answer v (packetLength time services run); buffer = ifClear v (over 0 (packetBytes rate sequence time services captions) buffer) buffer }
+    record {
+      answer = answer v (packetLength time services run);
+      buffer = ifClear v (over 0 (packetBytes rate sequence time services captions) buffer) buffer;
+    }

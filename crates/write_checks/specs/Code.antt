@@ -1,7 +1,14 @@
 -- Follows the code and not the rules: what testing a packet that is to be written gives, and its time code and list by themselves.
 use Prim.Native.Nat.{ℕ}
 use Rattle.basis.specs.Check.{Verdict, verdict, answer, ifClear}
-use Rattle.write_checks.specs.Checks.{packetWriteChecks, packetLength, servicesWriteChecks, servicesLength, timeCodeWriteChecks, timeCodeLength}
+use Rattle.write_checks.specs.Checks.{
+  packetLength,
+  packetWriteChecks,
+  servicesLength,
+  servicesWriteChecks,
+  timeCodeLength,
+  timeCodeWriteChecks,
+}
 use Rattle.basis.specs.declared.answer.Answer.{Answer}
 use Rattle.service_list.specs.declared.list.MaybeServiceInfo.{MaybeServiceInfo}
 use Rattle.values_time.specs.declared.time.MaybeTimeCode.{MaybeTimeCode}
