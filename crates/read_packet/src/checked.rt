@@ -50,12 +50,12 @@ impl Checked {
             return Self::refused(header_answer);
         }
         let flags = header.flags;
-        let section = TimeCodeSection::parse(packet, flags.time_code, Packet::HEADER_LEN as u8);
-        let time_code_answer = section.answer;
+        let timed = TimeCodeSection::parse(packet, flags.time_code, Packet::HEADER_LEN as u8);
+        let time_code_answer = timed.answer;
         if !time_code_answer.is_done() {
             return Self::refused(time_code_answer);
         }
-        let captions_at = Packet::HEADER_LEN + section.size;
+        let captions_at = Packet::HEADER_LEN + timed.size;
         let captions = test_captions(packet, flags.cc_data, captions_at as u8);
         let captions_answer = captions.answer;
         if !captions_answer.is_done() {
@@ -73,7 +73,7 @@ impl Checked {
             return Self::refused(closing_answer);
         }
         let framerate = header.framerate;
-        let time_code = section.time_code;
+        let time_code = timed.time_code;
         Self {
             answer: Answer::done(captions.size),
             framerate,
