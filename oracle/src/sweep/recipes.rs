@@ -93,15 +93,9 @@ impl Recipe {
         }
     }
 
-    /// Every third entry is a field, 1 and 2 in turn, and all have flags, which a field drops.
+    /// Every third entry is a field, and all have flags, which a field drops.
     fn entry(&self, k: u8) -> [u8; 7] {
-        let (header, kind) = match k % 3 {
-            2 => (0x80, 0x7E + k / 3 % 2),
-            _ => {
-                let number = ((u16::from(k) * 17 + 5) % 63 + 1) as u8;
-                (0x80 + number, 0xC0 + number)
-            }
-        };
+        let (header, kind) = named(k % 3 == 2, k / 3, k);
         let flags = k % 4 * 0x40 + 0x3F;
         [
             header,
@@ -129,4 +123,13 @@ impl Recipe {
         let at = packet.len() - 1 - self.behind;
         mend::checksum(packet, at, at + usize::from(self.behind > 0));
     }
+}
+
+/// What entry k of a made section names, as its header byte and its byte 3: a field, 1 and 2 in turn, or a digital service.
+pub fn named(field: bool, turn: u8, k: u8) -> (u8, u8) {
+    if field {
+        return (0x80, 0x7E + turn % 2);
+    }
+    let number = ((u16::from(k) * 17 + 5) % 63 + 1) as u8;
+    (0x80 + number, 0xC0 + number)
 }

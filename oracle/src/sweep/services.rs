@@ -1,6 +1,7 @@
 //! Entries and sections: every entry, every header byte, and good sections with one byte or the size changed.
 
 use crate::digest::Digest;
+use crate::recipes::named;
 use crate::refusal::refusal;
 use crate::show::Answer;
 use cdp_types::{FieldOrService, ServiceEntry, ServiceInfo};
@@ -95,15 +96,9 @@ fn good(count: u8) -> Vec<u8> {
     section
 }
 
-/// Every fourth entry is a field, 1 and 2 in turn, and all have flags, which a field drops.
+/// Every fourth entry is a field, and all have flags, which a field drops.
 fn good_entry(k: u8) -> [u8; 7] {
-    let (header, kind) = match k % 4 {
-        3 => (0x80, 0x7E + k / 4 % 2),
-        _ => {
-            let number = ((u16::from(k) * 17 + 5) % 63 + 1) as u8;
-            (0x80 + number, 0xC0 + number)
-        }
-    };
+    let (header, kind) = named(k % 4 == 3, k / 4, k);
     let easy = if k % 2 == 1 { 0x80 } else { 0 };
     let wide = if k % 3 == 1 { 0x40 } else { 0 };
     [
