@@ -15,7 +15,7 @@ captionCount p i = under x1F (byte p (i + 1))
 abbrev pub captionsSize : List ℕ → ℕ → ℕ
 captionsSize p i = sectionHeadSize + tripletSize * captionCount p i
 
--- n is at least i+2; byte i is 72; byte i+1 has all of E0; n is at least i+2+3c
+-- 6.1: n is at least i+2; 6.2: byte i is 72; 6.3: byte i+1 has all of E0; 6.4: n is at least i+2+3c
 abbrev pub captionsChecks : List ℕ → ℕ → List Check
 captionsChecks p i =
     sizeCheck p (i + sectionHeadSize)

@@ -15,7 +15,7 @@ use Rattle.values.specs.Sequence.{sequenceOf}
 abbrev pub futureLength : List ℕ → ℕ → ℕ
 futureLength p i = byte p (i + 1)
 
--- rule 8: the id lies in 75 to EF; n is at least i+1+L; i moves on by 2+L, and n is at least the new i+2
+-- 8.2: the id lies in 75 to EF; 8.3: n is at least i+1+L; i moves on by 2+L, and 8.4: n is at least the new i+2
 abbrev pub futureChecksAt : List ℕ → ℕ → List Check
 futureChecksAt p i =
     check (leb 0x75 (byte p i) && leb (byte p i) 0xEF) WrongMagic
@@ -38,7 +38,7 @@ footerFrom (suc turns) p i = cond (eqb (byte p i) footerId) i (footerFrom turns 
 abbrev pub checksumOf : List ℕ → ℕ
 checksumOf p = negative (total (take (length p - 1) p))
 
--- rule 9 at i: n is at least i+4; the sequence again; the checksum
+-- 9.1: n is at least i+4; 9.2: the sequence again; 9.3: the checksum
 abbrev pub footerChecks : List ℕ → ℕ → ℕ → List Check
 footerChecks p sequence i =
     sizeCheck p (i + footerSize)
@@ -46,7 +46,7 @@ footerChecks p sequence i =
     ∷ check (eqb (byte p (i + 3)) (checksumOf p)) ChecksumFailed
     ∷ []
 
--- rules 8 and 9: n is at least i+2; the future sections; the footer
+-- 8.1: n is at least i+2; 8.2 to 8.4: the future sections; 9.1 to 9.3: the footer
 unfoldable pub closingChecks : List ℕ → ℕ → ℕ → List Check
 closingChecks p sequence i =
     sizeCheck p (i + sectionHeadSize) ∷ futureChecks (length p) p i ++ footerChecks p sequence (footerFrom (length p) p i)

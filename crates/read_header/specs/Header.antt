@@ -26,7 +26,7 @@ flagsIn p = flagsOf (byte p 4)
 abbrev pub sequenceIn : List ℕ → ℕ
 sequenceIn p = sequenceOf (byte p 5) (byte p 6)
 
--- rule 2: the least size, 96 69, the size that byte 2 says; rule 3: one of the eight rates
+-- 2.1: the least size; 2.2: 96 69; 2.3: the size that byte 2 says; 3.1: one of the eight rates
 abbrev pub headerChecks : List ℕ → List Check
 headerChecks p =
     sizeCheck p leastSize

@@ -29,7 +29,7 @@ sameFlags l f =
     Bool·beq (l .start) (f .«svc_info_start»)
     && (Bool·beq (l .change) (f .«svc_info_change») && Bool·beq (l .complete) (f .«svc_info_complete»))
 
--- n is at least i+2; byte i is 73; n is at least i+2+7s; the rules of a section; the flags
+-- 7.1: n is at least i+2; 7.2: byte i is 73; 7.3: n is at least i+2+7s; S1 to S8; 7.4: the flags
 abbrev pub servicesChecks : List ℕ → Flags → ℕ → List Check
 servicesChecks p f i =
     sizeCheck p (i + sectionHeadSize)

@@ -15,7 +15,7 @@ use Rattle.values_time.specs.declared.time.TimeCode.{TimeCode}
 abbrev pub ofFour : {A : Type 0} → (ℕ → ℕ → ℕ → ℕ → A) → List ℕ → ℕ → A
 ofFour f p i = f (byte p (i + 1)) (byte p (i + 2)) (byte p (i + 3)) (byte p (i + 4))
 
--- n is at least i+5; byte i is 71; then the fixed bits of the four bytes behind it
+-- 5.1: n is at least i+5; 5.2: byte i is 71; 5.3 to 5.5: the fixed bits of the four bytes behind it
 abbrev pub timeCodeChecks : List ℕ → ℕ → List Check
 timeCodeChecks p i =
     sizeCheck p (i + timeCodeSize)

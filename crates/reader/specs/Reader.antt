@@ -16,7 +16,7 @@ use Rattle.reader.specs.Shown.{freshReader, shownBy, state}
 use Rattle.reader.specs.declared.parser.CDPParser.{CDPParser}
 use Rattle.reader.specs.declared.parser.CDPParserRead.{CDPParserRead}
 
--- rules 1 to 9
+-- 1.1, and then rules 2 to 9
 abbrev pub readChecks : List ℕ → ℕ → List Check
 readChecks p room = roomCheck captionRoom room ∷ packetChecks p
 

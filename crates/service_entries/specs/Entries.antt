@@ -28,7 +28,7 @@ fillers = replicate places filler
 abbrev pub countOf : List ℕ → ℕ
 countOf d = under x0F (byte d 1)
 
--- S1 to S4: two bytes; 73; bit 80 of byte 1; seven bytes for each entry behind these two
+-- S1: two bytes; S2: 73; S3: bit 80 of byte 1; S4: seven bytes for each entry behind these two
 abbrev pub frameChecks : List ℕ → List Check
 frameChecks d =
     sizeCheck d sectionHeadSize
@@ -45,7 +45,7 @@ namedBy header = cond (allSet x40 header) (under x1F header) (under x3F header)
 abbrev pub sixBehind : List ℕ → ℕ → List ℕ
 sixBehind d at = byte d (at + 1) ∷ byte d (at + 2) ∷ byte d (at + 3) ∷ byte d (at + 4) ∷ byte d (at + 5) ∷ byte d (at + 6) ∷ []
 
--- S5 to S8 at a place: bit 80; with 40 also 20; the entry's own rules; the number named is the one held
+-- at a place, S5: bit 80; S6: with 40 also 20; S7: the entry's own rules; S8: the number named is the one held
 abbrev pub checksAt : List ℕ → ℕ → List Check
 checksAt d at =
     check (allSet x80 (byte d at)) InvalidFixedBits

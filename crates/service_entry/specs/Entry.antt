@@ -13,14 +13,14 @@ use Rattle.service_entry.specs.declared.entry.ServiceEntryRead.{ServiceE
 use Rattle.service_entry.specs.declared.service.FieldOrService.{FieldOrService}
 use Rattle.service_entry.specs.declared.service.FieldOrService.the-variants.{Field, Service}
 
--- E2: with 80, byte 3 is digital and its low six bits are a number other than 0; without, it is a field and has 3E
+-- E2a: with 80, byte 3 is digital and its low six bits are a number other than 0; E2b: without, it is a field and has 3E
 abbrev pub kindCheck : ℕ → Check
 kindCheck kind =
     cond (allSet x80 kind)
     (check (not (allClear x3F kind)) InvalidServiceNumber)
     (check (allSet x3E kind) InvalidFixedBits)
 
--- E1 to E4 in order: byte 3 has 40; what it names; byte 4 has 3F; byte 5 is FF
+-- E1: byte 3 has 40; E2: what it names; E3: byte 4 has 3F; E4: byte 5 is FF
 abbrev pub entryChecks : List ℕ → List Check
 entryChecks e =
     check (allSet x40 (byte e 3)) InvalidFixedBits

@@ -57,7 +57,7 @@ entryBytes e =
     ∷ 0xFF
     ∷ []
 
--- an entry alone: its value, then six bytes of room
+-- an entry alone, W8: its value; W9: six bytes of room
 unfoldable pub entryWritten : ServiceEntry → List ℕ → Written
 entryWritten e buffer = written (verdict (entryCheck e ∷ roomCheck entryLength (length buffer) ∷ [])) (entryBytes e) buffer
 

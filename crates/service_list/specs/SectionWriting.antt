@@ -36,7 +36,7 @@ sectionByte l = 0x80 + flag (l .start) 0x40 + flag (l .change) 0x20 + flag (l .c
 unfoldable pub sectionBytes : ServiceInfo → List ℕ
 sectionBytes l = servicesId ∷ sectionByte l ∷ entryListBytes (counted l)
 
--- count, then entries: whether a list can be written at all
+-- W7: the count; W8: the entries
 abbrev pub valueChecks : ServiceInfo → List Check
 valueChecks l = countCheck l ∷ entryWriteChecks (counted l)
 

@@ -39,8 +39,8 @@ abbrev pub setComplete : ServiceInfo → Bool → ServiceInfo
 setComplete l on = list (l .start) (l .change) on (l .services) (l .count)
 
 -- the filler in all places; the flags stay
-abbrev pub clear : ServiceInfo → ServiceInfo
-clear l = list (l .start) (l .change) (l .complete) fillers 0
+abbrev pub clearServices : ServiceInfo → ServiceInfo
+clearServices l = list (l .start) (l .change) (l .complete) fillers 0
 
 -- any entry goes behind the others; a list with no free place is given back
 abbrev pub added : ServiceInfo → ServiceEntry → ServiceInfoAdded
@@ -51,7 +51,7 @@ added l e =
       list = ifClear v (list (l .start) (l .change) (l .complete) (set (l .services) (l .count) e) (l .count + 1)) l;
     }
 
--- a count over 15 is no list's
+-- W7: a count over 15 is no list's
 abbrev pub countCheck : ServiceInfo → Check
 countCheck l = check (leb (l .count) places) WouldOverflow
 

@@ -91,7 +91,7 @@ impl ServiceInfo {
 
     // Takes every entry out; the flags stay.
     pub fn clear_services(self) -> Self
-        ensures { λ r. ⌜ r ≡ List.clear self ⌝ }
+        ensures { λ r. ⌜ r ≡ List.clearServices self ⌝ }
     {
         let services = fillers();
         Self {

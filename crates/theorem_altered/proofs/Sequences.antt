@@ -28,7 +28,7 @@ use Rattle.theorem_altered.specs.Twins.{
   exceptedAfter,
   firstOf,
   flushes,
-  list,
+  listIs,
   nothing,
   same,
   saveBoth,
@@ -79,7 +79,7 @@ module _ (s : CDPParser) (p lent : List ℕ) (room : captionRoom ≤ length lent
 -- a refusal keeps the list that is excepted
 pub cleared-with : (e : Excepted) (s : CDPParser) → cleared (withList e s) ≡ withList e (cleared s)
 cleared-with nothing s = refl
-cleared-with (list l) s = refl
+cleared-with (listIs l) s = refl
 
 abbrev refusing : Refusal → CDPParser → Shown
 refusing why s = record { answer = refused why; parser = s; captions = [] }
@@ -96,7 +96,7 @@ stays (broken why) length shown s captions e p lent lent′ =
 
 differs : (p q lent lent′ : List ℕ) (a : Altered p q) (e : Excepted) (s : CDPParser)
     → given (verdict (packetChecks q)) (captionsLength q) (shownBy q) (withList e s) (captionsOf q)
-    ≡ saveBoth (altered p q lent lent′) (list (newList p q))
+    ≡ saveBoth (altered p q lent lent′) (listIs (newList p q))
     (given (verdict (packetChecks p)) (captionsLength p) (shownBy p) s (captionsOf p))
 differs p q lent lent′ a e s =
     rw (accepted-too p q a, a .put .accepted, captions-length p q a, shown-too p q a, captions-new p q a)

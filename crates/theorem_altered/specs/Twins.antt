@@ -52,17 +52,17 @@ Twins Kind (t ∷ ts) = Allowed Kind t × Twins Kind ts
 -- what is excepted of the service list after a call: nothing, or this list is shown in place of the first sequence's
 pub data Excepted : Type 0 where
   nothing : Excepted
-  list : MaybeServiceInfo → Excepted
+  listIs : MaybeServiceInfo → Excepted
 
 -- the new list, from the altered packet's call until the next accepted packet or flush
 abbrev pub exceptedAfter : Twin → Answer → Excepted → Excepted
 exceptedAfter flushes a e = nothing
 exceptedAfter (same p lent lent′) a e = cond (eqb (a .number) 0) nothing e
-exceptedAfter (altered p q lent lent′) a e = list (newList p q)
+exceptedAfter (altered p q lent lent′) a e = listIs (newList p q)
 
 abbrev pub withList : Excepted → CDPParser → CDPParser
 withList nothing s = s
-withList (list l) s = state (s .framerate) (s .«time_code») (s .sequence) l
+withList (listIs l) s = state (s .framerate) (s .«time_code») (s .sequence) l
 
 -- the altered packets' captions, which are the new ones
 abbrev pub withCaptions : Twin → List ℕ → List ℕ

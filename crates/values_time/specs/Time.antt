@@ -34,7 +34,7 @@ units b = under x0F b
 unfoldable pub digits : ℕ → ℕ → ℕ
 digits tensBits b = under (bitRun tensBits 4) b * 10 + units b
 
--- the fixed bits, in the order of the bytes: hours have both bits of C0, minutes have 80, frames do not have 40
+-- 5.3: hours have both bits of C0; 5.4: minutes have 80; 5.5: frames do not have 40
 abbrev pub timeChecks : ℕ → ℕ → ℕ → ℕ → List Check
 timeChecks hours minutes seconds frames =
     check (allSet xC0 hours) InvalidFixedBits
@@ -66,7 +66,7 @@ mostSeconds = 79
 abbrev pub mostFrames : ℕ
 mostFrames = 39
 
--- as tests, and as one fact
+-- W3 to W6
 abbrev pub timeWriteChecks : TimeCode → List Check
 timeWriteChecks t =
     check (leb (t .hours) mostHours) NotWritable

@@ -13,18 +13,18 @@ use Rattle.service_list.specs.declared.list.MaybeServiceInfo.{MaybeServiceInfo}
 use Rattle.values.specs.declared.framerate.Framerate.{Framerate}
 use Rattle.values_time.specs.declared.time.MaybeTimeCode.{MaybeTimeCode}
 
--- a caption run has at most 93 bytes, three for each triplet
+-- W2: a caption run has at most 93 bytes, three for each triplet
 abbrev pub fullTriplets : ℕ → Bool
 fullTriplets run = leb run captionRun && eqb (run % tripletSize) 0
 
--- what is not held is unread
+-- W3 to W6, W7 and W8; what is not held is unread
 abbrev pub timeCodeWriteChecks : MaybeTimeCode → List Check
 timeCodeWriteChecks time = when (time .present) (timeWriteChecks (time .«time_code»))
 
 abbrev pub servicesWriteChecks : MaybeServiceInfo → List Check
 servicesWriteChecks services = when (services .present) (valueChecks (services .«service_info»))
 
--- rate, caption run, time code, then count and entries of the list: whether a packet can be written at all
+-- W1: the rate; W2: the caption run; W3 to W6: the time code; W7 and W8: count and entries of the list
 abbrev pub packetWriteChecks : Framerate → MaybeTimeCode → MaybeServiceInfo → ℕ → List Check
 packetWriteChecks rate time services run =
     check (known rate) UnknownFramerate
