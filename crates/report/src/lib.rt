@@ -10,5 +10,4 @@ pub use digest::flag_fed;
 pub use digest::list_fed;
 pub use digest::two_fed;
 pub use lent::fill;
-pub use recipe::made_kind;
-pub use recipe::made_number;
+pub use recipe::named;

@@ -6,8 +6,9 @@ use lib.Dec.{eqb}
 use lib.ListN.{length, replicate, set, take}
 use Rattle.values.specs.Layout.{timeCodeId, captionsId, servicesId, footerId}
 use Rattle.values.specs.Sequence.{sequenceBytes}
+use Rattle.basis.specs.Bytes.{byte}
 use Rattle.report.specs.Made.{made}
-use Rattle.report.specs.Recipe.{madeKind, madeNumber}
+use Rattle.report.specs.Recipe.{names}
 use Rattle.sweep_reader.specs.Mend.{packetMended}
 use Rattle.sweep_reader.specs.declared.recipes.Recipe.{Recipe}
 
@@ -18,8 +19,8 @@ fieldMade k = eqb (k % 3) 2
 -- the seven bytes of service k in a packet; all have flags, which a field drops
 abbrev pub entryMade : ℕ → ℕ → List ℕ
 entryMade packet k =
-    (0x80 + madeNumber (fieldMade k) k) ∷ (0x61 + k % 16) ∷ (0x61 + packet % 16) ∷ 0x7A
-    ∷ madeKind (fieldMade k) (k / 3) k ∷ (k % 4 * 0x40 + 0x3F) ∷ 0xFF ∷ []
+    let named = names (fieldMade k) (k / 3) k in
+    byte named 0 ∷ (0x61 + k % 16) ∷ (0x61 + packet % 16) ∷ 0x7A ∷ byte named 1 ∷ (k % 4 * 0x40 + 0x3F) ∷ 0xFF ∷ []
 
 unfoldable pub entriesMade : ℕ → ℕ → List ℕ
 entriesMade packet zero = []

@@ -1,21 +1,18 @@
 // The seven bytes of a service in a packet. Every third is a field.
 ghost use mathlib.Core.Path.{_≡_};
 ghost use Rattle.sweep_reader.specs.Make as Make;
-use report::made_kind;
-use report::made_number;
+use report::named;
 
 pub fn bytes(packet: u8, k: u8) -> [u8; 7]
     ensures { λ r. ⌜ r ≡ Make.entryMade packet k ⌝ }
 {
-    let field = is_field(k);
-    let number = made_number(field, k as u64);
-    let kind = made_kind(field, (k / 3) as u64, k as u64);
+    let names = named(is_field(k), (k / 3) as u64, k as u64);
     [
-        0x80 + number,
+        names[0],
         0x61 + k % 16,
         0x61 + packet % 16,
         0x7A,
-        kind,
+        names[1],
         // All have flags, which a field drops.
         k % 4 * 0x40 + 0x3F,
         0xFF,

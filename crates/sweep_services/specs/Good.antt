@@ -4,8 +4,9 @@ use mathlib.Core.List.{List, [], _∷_}
 use Prim.Native.Nat.{ℕ, _+_, _-_, _*_, _/_, _%_}
 use lib.Dec.{eqb, ltb}
 use lib.ListN.{getD}
+use Rattle.basis.specs.Bytes.{byte}
 use Rattle.report.specs.Made.{made}
-use Rattle.report.specs.Recipe.{madeKind, madeNumber}
+use Rattle.report.specs.Recipe.{names}
 use Rattle.values.specs.Layout.{servicesId, sectionLength}
 
 -- how many bytes the section of a count has
@@ -27,8 +28,8 @@ goodFlags k = k % 2 * 0x80 + k % 3 % 2 * 0x40 + 0x3F
 -- the bytes of entry k before its last, which is FF
 abbrev pub entryStart : ℕ → List ℕ
 entryStart k =
-    (madeNumber (goodField k) k + 0x80) ∷ (0x61 + k % 16) ∷ (0x71 + k % 16) ∷ (0x81 + k % 16)
-    ∷ madeKind (goodField k) (k / 4) k ∷ goodFlags k ∷ []
+    let named = names (goodField k) (k / 4) k in
+    byte named 0 ∷ (0x61 + k % 16) ∷ (0x71 + k % 16) ∷ (0x81 + k % 16) ∷ byte named 1 ∷ goodFlags k ∷ []
 
 unfoldable pub entryByte : ℕ → ℕ → ℕ
 entryByte k place = getD (entryStart k) place 0xFF

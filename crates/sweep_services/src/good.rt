@@ -1,8 +1,7 @@
 // Sections that the reader takes, byte by byte, made from their count of entries.
 ghost use mathlib.Core.Path.{_≡_};
 ghost use Rattle.sweep_services.specs.Good as Good;
-use report::made_kind;
-use report::made_number;
+use report::named;
 use values::Packet;
 
 // How many bytes the section of a count has.
@@ -31,12 +30,13 @@ pub fn byte(count: u64, place: u64) -> u8
 fn entry_byte(k: u64, place: u64) -> u8
     ensures { λ r. ⌜ r ≡ Good.entryByte k place ⌝ }
 {
+    let names = named(is_field(k), k / 4, k);
     match place {
-        0 => made_number(is_field(k), k) + 0x80,
+        0 => names[0],
         1 => (0x61 + k % 16) as u8,
         2 => (0x71 + k % 16) as u8,
         3 => (0x81 + k % 16) as u8,
-        4 => made_kind(is_field(k), k / 4, k),
+        4 => names[1],
         5 => flags(k),
         _ => 0xFF,
     }

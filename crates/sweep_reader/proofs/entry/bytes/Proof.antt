@@ -7,44 +7,44 @@ use Rattle.sweep_reader.proofs.entry.bytes.Tie as tie
 is-field-requires : tie.Need-is-field-requires
 is-field-requires c κs = search needs
 
-made-number-requires : tie.Need-made-number-requires
-made-number-requires c κs = search needs
+cast-named : tie.Need-cast-named
+cast-named c = search needs
 
-cast-made-kind : tie.Need-cast-made-kind
-cast-made-kind c = search needs
+named-requires : tie.Need-named-requires
+named-requires c κs = search needs
 
-made-kind-requires : tie.Need-made-kind-requires
-made-kind-requires c κs = search needs
-
-add-t7 : tie.Need-add-t7
-add-t7 c = search needs
-
-add-t10 : tie.Need-add-t10
-add-t10 c = search needs
+array-read-t6 : tie.Need-array-read-t6
+array-read-t6 c = search needs
 
 add-t12 : tie.Need-add-t12
 add-t12 c = search needs
 
-mul-t14 : tie.Need-mul-t14
-mul-t14 c = search needs
+add-t14 : tie.Need-add-t14
+add-t14 c = search needs
 
-add-t15 : tie.Need-add-t15
-add-t15 c = search needs
+array-read-t17 : tie.Need-array-read-t17
+array-read-t17 c = search needs
+
+mul-t19 : tie.Need-mul-t19
+mul-t19 c = search needs
+
+add-t20 : tie.Need-add-t20
+add-t20 c = search needs
 
 returns : tie.Need-returns
-returns c = rw (c .made-kind .ensures, c .before .made-number .ensures .0, c .before .before .is-field .ensures)
+returns c = rw (c .named .ensures, c .before .is-field .ensures)
 
 pub bytes-spec : {M : Type 1} → statement M
 bytes-spec =
     tie.close
     (tie.spec
     is-field-requires
-    made-number-requires
-    cast-made-kind
-    made-kind-requires
-    add-t7
-    add-t10
+    cast-named
+    named-requires
+    array-read-t6
     add-t12
-    mul-t14
-    add-t15
+    add-t14
+    array-read-t17
+    mul-t19
+    add-t20
     returns)

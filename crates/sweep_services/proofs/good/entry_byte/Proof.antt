@@ -9,42 +9,38 @@ use Rattle.sweep_services.proofs.good.entry_byte.Tie as tie
 is-field-requires : tie.Need-is-field-requires
 is-field-requires c κs = search needs
 
-made-number-requires : tie.Need-made-number-requires
-made-number-requires c κs = search needs
+named-requires : tie.Need-named-requires
+named-requires c κs = search needs
+
+array-read-result : tie.Need-array-read-result
+array-read-result c = search needs
 
 add-result : tie.Need-add-result
 add-result c = search needs
 
-add-result-2 : tie.Need-add-result-2
-add-result-2 c = search needs
-
 cast-result : tie.Need-cast-result
 cast-result c = search needs
 
-add-result-3 : tie.Need-add-result-3
-add-result-3 c = search needs
+add-result-2 : tie.Need-add-result-2
+add-result-2 c = search needs
 
 cast-result-2 : tie.Need-cast-result-2
 cast-result-2 c = search needs
 
-add-result-4 : tie.Need-add-result-4
-add-result-4 c = search needs
+add-result-3 : tie.Need-add-result-3
+add-result-3 c = search needs
 
 cast-result-3 : tie.Need-cast-result-3
 cast-result-3 c = search needs
 
-is-field-requires-2 : tie.Need-is-field-requires-2
-is-field-requires-2 c κs = search needs
-
-made-kind-requires : tie.Need-made-kind-requires
-made-kind-requires c κs = search needs
+array-read-result-2 : tie.Need-array-read-result-2
+array-read-result-2 c = search needs
 
 flags-requires : tie.Need-flags-requires
 flags-requires c κs = search needs
 
 returns : tie.Need-returns
-returns c =
-    rw (c .made-number .ensures .0, c .before .is-field .ensures) (entry-at _ _ 0 (c .before .before .match .keys1))
+returns c = rw (c .before .named .ensures, c .before .before .is-field .ensures) (entry-at _ _ 0 (c .match .keys1))
 
 returns-2 : tie.Need-returns-2
 returns-2 c = entry-at _ _ 1 (c .match .keys2)
@@ -56,8 +52,7 @@ returns-4 : tie.Need-returns-4
 returns-4 c = entry-at _ _ 3 (c .match .keys4)
 
 returns-5 : tie.Need-returns-5
-returns-5 c =
-    rw (c .made-kind .ensures, c .before .is-field2 .ensures) (entry-at _ _ 4 (c .before .before .match .keys5))
+returns-5 c = rw (c .before .named .ensures, c .before .before .is-field .ensures) (entry-at _ _ 4 (c .match .keys5))
 
 returns-6 : tie.Need-returns-6
 returns-6 c = rw (c .flags .ensures) (entry-at _ _ 5 (c .before .match .keys6))
@@ -70,16 +65,15 @@ entry-byte-spec =
     tie.close
     (tie.spec
     is-field-requires
-    made-number-requires
+    named-requires
+    array-read-result
     add-result
-    add-result-2
     cast-result
-    add-result-3
+    add-result-2
     cast-result-2
-    add-result-4
+    add-result-3
     cast-result-3
-    is-field-requires-2
-    made-kind-requires
+    array-read-result-2
     flags-requires
     returns
     returns-2
