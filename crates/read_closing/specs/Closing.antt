@@ -34,7 +34,7 @@ abbrev pub footerFrom : ℕ → List ℕ → ℕ → ℕ
 footerFrom zero p i = i
 footerFrom (suc turns) p i = cond (eqb (byte p i) footerId) i (footerFrom turns p (i + sectionHeadSize + futureLength p i))
 
--- rule 9: what brings the sum to 0, with the last byte of the packet left out of it
+-- rule 9: the negative of the sum over the packet without its last byte
 abbrev pub checksumOf : List ℕ → ℕ
 checksumOf p = negative (total (take (length p - 1) p))
 

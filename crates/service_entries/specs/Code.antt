@@ -1,7 +1,7 @@
 -- Follows the code and not the rules: the steps in which a section is tested, and its entries as they are read before the list is made.
 use mathlib.Core.List.{List}
 use mathlib.Core.Path.{_≡_}
-use Prim.Native.Nat.{ℕ, _+_, _*_, _/_, _%_}
+use Prim.Native.Nat.{ℕ, _/_, _%_}
 use lib.ListN.{length}
 use Rattle.basis.specs.Bytes.{byte}
 use Rattle.basis.specs.Check.{verdict, answer, ifClear}

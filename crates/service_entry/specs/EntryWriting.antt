@@ -61,7 +61,7 @@ entryBytes e =
 unfoldable pub entryWritten : ServiceEntry → List ℕ → Written
 entryWritten e buffer = written (verdict (entryCheck e ∷ roomCheck entryLength (length buffer) ∷ [])) (entryBytes e) buffer
 
--- an entry's header byte: a digital number above 80; 80 where field 1 is named, for field 2 the next
+-- an entry's header byte: a digital number is added to 80, field 1 has plain 80 and field 2 has 81
 abbrev pub headerByte : FieldOrService → ℕ
 headerByte (Field first) = cond first 0x80 0x81
 headerByte (Service digital) = 0x80 + digital .service

@@ -1,7 +1,7 @@
 // Writing: a list as a section.
 ghost use mathlib.Core.Path.{_≡_};
 ghost use mathlib.Core.Bool.{true};
-ghost use Prim.Native.Nat.{_+_, _*_, _≤_};
+ghost use Prim.Native.Nat.{_≤_};
 ghost use lib.ListN.{length};
 ghost use Rattle.basis.specs.Bytes as Bytes;
 ghost use Rattle.values.specs.Layout.{sectionHeadSize, sectionLength};

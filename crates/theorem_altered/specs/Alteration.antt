@@ -16,12 +16,12 @@ use Rattle.read_services.specs.Services.{servicesPart, servicesOf}
 use Rattle.read_packet.specs.Packet.{captionsAt, closingAt, footerAt, packetChecks, servicesAt}
 use Rattle.service_list.specs.declared.list.MaybeServiceInfo.{MaybeServiceInfo}
 use Rattle.service_list.specs.declared.list.ServiceInfo.{ServiceInfo}
-use Rattle.values.specs.Layout.{footerSize}
+use Rattle.values.specs.Layout.{footerSize, sectionHeadSize}
 use Rattle.values.specs.declared.flags.Flags.{Flags}
 
 -- where the caption bytes begin, behind the section's id and count; they end where the service section stands
 abbrev pub captionsFrom : List ℕ → ℕ
-captionsFrom p = captionsAt p + sizeWhen (flagsIn p .«cc_data») 2
+captionsFrom p = captionsAt p + sizeWhen (flagsIn p .«cc_data») sectionHeadSize
 
 -- other bytes in a span, equally many, in an accepted packet that ends with its footer, and the checksum mended
 pub record Put (from to : ℕ) (p q : List ℕ) : Type 0 where

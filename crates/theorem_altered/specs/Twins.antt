@@ -34,7 +34,7 @@ abbrev pub calls : (Twin → Call) → List Twin → List Call
 calls of [] = []
 calls of (t ∷ ts) = of t ∷ calls of ts
 
--- no packet of either sequence is read with a caption buffer that is too short
+-- both sequences lend each packet a caption buffer with room for the most captions
 pub record Lent (lent lent′ : List ℕ) : Type 0 where
   pub first : captionRoom ≤ length lent
   pub second : captionRoom ≤ length lent′

@@ -6,6 +6,7 @@ use Prim.Native.Nat.{ℕ, _+_, _/_}
 use lib.ListN.{length, take}
 use Rattle.basis.specs.Answer.{done}
 use Rattle.basis.specs.Bytes.{over}
+use Rattle.values.specs.Layout.{sectionHeadSize, tripletSize}
 use Rattle.values.specs.Rate.{present}
 use Rattle.service_list.specs.SectionBack.{allOfThree, namesFieldTwo}
 use Rattle.service_entries.specs.Entries.{filled}
@@ -46,9 +47,9 @@ shownBack w rate = state (present rate) (heldTime (w .«time_code»)) (w .sequen
 
 -- the captions, behind the two bytes that the reader hands out before them
 abbrev pub captionsBack : List ℕ → List ℕ
-captionsBack captions = (0xC0 + length captions / 3) ∷ 0xFF ∷ captions
+captionsBack captions = (0xC0 + length captions / tripletSize) ∷ 0xFF ∷ captions
 
 -- reading answers 0 with the captions' length, shows the values, and leaves the captions at the start of the lent buffer
 pub record ReadBack (w : CDPWriter) (rate : Framerate) (captions lent : List ℕ) (got : CDPParserRead) (after : List ℕ) : Type 0 where
-  pub read : got ≡ record { answer = done (2 + length captions); parser = shownBack w rate }
+  pub read : got ≡ record { answer = done (sectionHeadSize + length captions); parser = shownBack w rate }
   pub handed : after ≡ over 0 (captionsBack captions) lent

@@ -3,7 +3,8 @@ use Prim.Native.Nat.{ℕ, _+_}
 use Rattle.basis.specs.Mask.{allSet, flag, x80, x40, x20, x10, x08, x04}
 use Rattle.values.specs.declared.flags.Flags.{Flags}
 
--- a bit for each: 80 tells of a time code, 40 of captions, 20 of services; then start, change and complete down to 04
+-- a bit for each: 80 tells of a time code, 40 of captions, 20 of services; then start, change and complete down to 04.
+-- Bits 02 and 01 are unread.
 abbrev pub flagsOf : ℕ → Flags
 flagsOf b =
     record {

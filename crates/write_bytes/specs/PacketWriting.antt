@@ -7,7 +7,7 @@ use Rattle.basis.specs.Bytes.{over}
 use Rattle.basis.specs.Check.{verdict, answer, ifClear, roomCheck}
 use Rattle.values.specs.Checksum.{total, negative}
 use Rattle.values.specs.Flags.{flagByte}
-use Rattle.values.specs.Layout.{timeCodeId, captionsId, footerId}
+use Rattle.values.specs.Layout.{timeCodeId, captionsId, footerId, tripletSize}
 use Rattle.values.specs.Sequence.{sequenceBytes}
 use Rattle.values_time.specs.Time.{timeBytes}
 use Rattle.service_entry.specs.EntryWriting.{Written}
@@ -41,7 +41,7 @@ timeCodeBytes time = cond (time .present) (timeCodeId ∷ timeBytes (time .«tim
 
 -- captions, always: the number of triplets below E0, and the run as it is
 abbrev pub captionsBytes : List ℕ → List ℕ
-captionsBytes captions = captionsId ∷ (0xE0 + length captions / 3) ∷ captions
+captionsBytes captions = captionsId ∷ (0xE0 + length captions / tripletSize) ∷ captions
 
 -- services, if held
 abbrev pub servicesBytes : MaybeServiceInfo → List ℕ
