@@ -8,10 +8,10 @@ use native.Mathlib.Numerals.{add-one}
 use lib.ListN.{length, take, drop}
 use Rattle.basis.specs.Bytes.{over}
 use Rattle.sweep_reader.specs.Make.{entriesMade, entryMade, finished, packetMade, partsMade}
-use Rattle.sweep_reader.specs.Room.{PutInRoom}
+use Rattle.text.specs.Room.{PutInRoom}
 use Rattle.sweep_reader.specs.declared.recipes.Recipe.{Recipe}
 use Rattle.sweep_reader.proofs.Mends.{length-finished}
-use Rattle.sweep_reader.proofs.Rooms.{put-again, put-size, put-there}
+use Rattle.text.proofs.Rooms.{put-again, put-size, put-there}
 
 pub entries-none : (packet : ℕ) → entriesMade packet 0 ≡ []
 unfolding entriesMade

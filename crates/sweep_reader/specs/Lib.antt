@@ -1,4 +1,3 @@
-pub mod Room
 pub mod Recipes
 pub mod Mend
 pub mod Make

@@ -1,28 +1,6 @@
-// Bytes put into a lent buffer, as many of them as it has room for.
-ghost use mathlib.Core.List.{[], _∷_};
+// The same byte again and again, put into a lent buffer that may be too short.
 ghost use lib.ListN.{replicate};
-ghost use Rattle.sweep_reader.specs.Room.{PutInRoom};
-
-// Puts one byte, and gives the place behind it. Behind the buffer's end nothing is put.
-pub fn put(out: &mut [u8], at: usize, byte: u8) -> usize
-    ensures { λ r. ⌜ PutInRoom at (byte ∷ []) (now (out .entry)) r (now (out .exit)) ⌝ }
-{
-    if at < out.len() {
-        out[at] = byte;
-        return at + 1;
-    }
-    at
-}
-
-pub fn put_all(out: &mut [u8], from: usize, bytes: &[u8]) -> usize
-    ensures { λ r. ⌜ PutInRoom from (now (bytes .entry)) (now (out .entry)) r (now (out .exit)) ⌝ }
-{
-    let mut at = from;
-    for k in 0..bytes.len() {
-        at = put(out, at, bytes[k]);
-    }
-    at
-}
+ghost use Rattle.text.specs.Room.{PutInRoom};
 
 // The same byte so many times.
 pub fn repeat(out: &mut [u8], from: usize, byte: u8, count: u8) -> usize
@@ -30,7 +8,7 @@ pub fn repeat(out: &mut [u8], from: usize, byte: u8, count: u8) -> usize
 {
     let mut at = from;
     for k in 0..count {
-        at = put(out, at, byte);
+        at = text::byte(out, at, byte);
     }
     at
 }

@@ -2,11 +2,11 @@
 ghost use mathlib.Core.Path.{_≡_};
 ghost use Rattle.sweep_reader.specs.Change as Changes;
 ghost use Rattle.sweep_reader.specs.Read as Read;
-use crate::bytes::put;
 use crate::mend::mend;
 use crate::read;
 use crate::read::Tally;
 use reader::CDPParser;
+use text::byte;
 
 // Which byte is changed, whether the checksum is mended after it, and how many bytes follow the footer.
 pub struct Change {
@@ -40,7 +40,7 @@ fn changed(
     ensures { λ _. ⌜ now (packet .exit) ≡ Changes.changedPacket change value (now (packet .entry)) ⌝ }
     ensures { λ _. ⌜ now (captions .exit) ≡ Read.captionsAfter (Changes.changedPacket change value (now (packet .entry))) (now (captions .entry)) ⌝ }
 {
-    put(packet, change.place, (value % 256) as u8);
+    byte(packet, change.place, (value % 256) as u8);
     mended(packet, change);
     read::packet(tally, held, packet, captions)
 }

@@ -5,13 +5,13 @@ ghost use lib.ListN.{length};
 ghost use Rattle.basis.specs.Bytes.{over};
 ghost use Rattle.report.specs.Made.{made};
 ghost use Rattle.sweep_reader.specs.Make as Make;
-ghost use Rattle.sweep_reader.specs.Room.{PutInRoom};
-use crate::bytes::put;
-use crate::bytes::put_all;
+ghost use Rattle.text.specs.Room.{PutInRoom};
 use crate::bytes::repeat;
 use crate::entry;
 use crate::mend::mend;
 use crate::recipes::Recipe;
+use text::byte;
+use text::word;
 
 // It is also what future sections contain and what stands behind a footer, so that a wrong length meets it.
 const FOOTER_ID: u8 = 0x74;
@@ -35,7 +35,7 @@ fn finish(packet: &mut [u8], behind: u8)
     ensures { λ _. ⌜ now (packet .exit) ≡ Make.finished behind (now (packet .entry)) ⌝ }
 {
     let size = packet.len();
-    put(packet, 2, (size % 256) as u8);
+    byte(packet, 2, (size % 256) as u8);
     mend(packet, behind);
 }
 
@@ -64,7 +64,7 @@ fn header(out: &mut [u8], recipe: Recipe) -> usize
         high(recipe.sequence),
         low(recipe.sequence),
     ];
-    put_all(out, 0, &bytes)
+    word(out, 0, &bytes)
 }
 
 fn high(sequence: u16) -> u8
@@ -86,7 +86,7 @@ fn time_code(out: &mut [u8], at: usize, recipe: Recipe) -> usize
         return at;
     }
     let bytes = [0x71, 0xD0 + recipe.number % 16, 0xB4, 0xA5, 0x99];
-    put_all(out, at, &bytes)
+    word(out, at, &bytes)
 }
 
 fn captions(out: &mut [u8], at: usize, recipe: Recipe) -> usize
@@ -97,7 +97,7 @@ fn captions(out: &mut [u8], at: usize, recipe: Recipe) -> usize
     }
     let count = recipe.captions % 32;
     let bytes = [0x72, 0xE0 + count];
-    let behind = put_all(out, at, &bytes);
+    let behind = word(out, at, &bytes);
     caption_bytes(out, behind, recipe.number, 3 * count)
 }
 
@@ -106,7 +106,7 @@ fn caption_bytes(out: &mut [u8], from: usize, number: u8, count: u8) -> usize
 {
     let mut at = from;
     for k in 0..count {
-        at = put(out, at, caption_byte(number, k));
+        at = byte(out, at, caption_byte(number, k));
     }
     at
 }
@@ -126,7 +126,7 @@ fn services(out: &mut [u8], at: usize, recipe: Recipe) -> usize
     }
     let count = recipe.services % 16;
     let bytes = [0x73, 0x80 + recipe.flags / 4 % 8 * 16 + count];
-    let behind = put_all(out, at, &bytes);
+    let behind = word(out, at, &bytes);
     entries(out, behind, recipe.number, count)
 }
 
@@ -136,7 +136,7 @@ fn entries(out: &mut [u8], from: usize, number: u8, count: u8) -> usize
     let mut at = from;
     for k in 0..count {
         let bytes = entry::bytes(number, k);
-        at = put_all(out, at, &bytes);
+        at = word(out, at, &bytes);
     }
     at
 }
@@ -159,7 +159,7 @@ fn future(out: &mut [u8], at: usize, id: u8, size: u8) -> usize
     ensures { λ r. ⌜ PutInRoom at (Make.futureMade id size) (now (out .entry)) r (now (out .exit)) ⌝ }
 {
     let bytes = [id, size];
-    let behind = put_all(out, at, &bytes);
+    let behind = word(out, at, &bytes);
     repeat(out, behind, FOOTER_ID, size)
 }
 
@@ -168,5 +168,5 @@ fn footer(out: &mut [u8], at: usize, sequence: u16) -> usize
     ensures { λ r. ⌜ PutInRoom at (Make.footerMade sequence) (now (out .entry)) r (now (out .exit)) ⌝ }
 {
     let bytes = [FOOTER_ID, high(sequence), low(sequence), 0x5A];
-    put_all(out, at, &bytes)
+    word(out, at, &bytes)
 }

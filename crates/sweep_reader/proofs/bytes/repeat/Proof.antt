@@ -3,8 +3,8 @@
 use mathlib.Core.Path.{_≡_}
 use Prim.Native.Nat.{_≤_, _-_}
 use lib.ListN.{length, replicate}
-use Rattle.sweep_reader.specs.Room.{PutInRoom}
-use Rattle.sweep_reader.proofs.Rooms.{again, behind-as, nothing}
+use Rattle.text.specs.Room.{PutInRoom}
+use Rattle.text.proofs.Rooms.{again, behind-as, nothing}
 use native.Mathlib.Omega.{arith}
 use borrow.Author.Needs.{needs}
 use Rattle.sweep_reader.proofs.bytes.repeat.Statement.{statement}
@@ -20,8 +20,8 @@ abbrev μ-loop : tie.MeasureT-loop
 loop-holds : tie.Need-loop-holds Inv-loop μ-loop
 loop-holds c = (omega arith, omega arith, nothing _ _)
 
-put-requires : tie.Need-put-requires Inv-loop μ-loop
-put-requires c κs = search needs
+byte-requires : tie.Need-byte-requires Inv-loop μ-loop
+byte-requires c κs = search needs
 
 add-k : tie.Need-add-k Inv-loop μ-loop
 add-k c = search needs
@@ -35,7 +35,7 @@ loop-again c =
     let t = s .before .before .before in (
       omega arith,
       omega arith,
-      behind-as (t .loop .inv .2) (s .put .ensures) (again (t .loop .k) (t .before .before .args .byte)),
+      behind-as (t .loop .inv .2) (s .byte .ensures) (again (t .loop .k) (t .before .before .args .byte)),
     )
 
 same-length : tie.Need-same-length Inv-loop μ-loop
@@ -53,7 +53,7 @@ repeat-spec =
     Inv-loop
     μ-loop
     loop-holds
-    put-requires
+    byte-requires
     add-k
     loop-less
     loop-again

@@ -2,16 +2,16 @@
 -- Assumes nothing.
 use mathlib.Core.Path.{_∙_, ap}
 use Rattle.sweep_reader.specs.Change.{mendedIf}
-use Rattle.sweep_reader.proofs.Rooms.{put-set}
+use Rattle.text.proofs.Rooms.{put-set}
 use borrow.Author.Needs.{needs}
 use Rattle.sweep_reader.proofs.change.changed.Statement.{statement}
 use Rattle.sweep_reader.proofs.change.changed.Tie as tie
 
-cast-put : tie.Need-cast-put
-cast-put c = search needs
+cast-byte : tie.Need-cast-byte
+cast-byte c = search needs
 
-put-requires : tie.Need-put-requires
-put-requires c κs = search needs
+byte-requires : tie.Need-byte-requires
+byte-requires c κs = search needs
 
 mended-requires : tie.Need-mended-requires
 mended-requires c κs = search needs
@@ -34,15 +34,15 @@ returns c =
     let p = between .before .before in
     let lent = p .before .before in
     let start = lent .before .before in
-    let e = m .mended .ensures ∙ ap (mendedIf (start .args .change)) (put-set _ _ _ (p .put .ensures)) in
+    let e = m .mended .ensures ∙ ap (mendedIf (start .args .change)) (put-set _ _ _ (p .byte .ensures)) in
     (rw e at (read .packet3 .ensures .0), (e, rw e at (read .packet3 .ensures .1)))
 
 pub changed-spec : {M : Type 1} → statement M
 changed-spec =
     tie.close
     (tie.spec
-    cast-put
-    put-requires
+    cast-byte
+    byte-requires
     mended-requires
     packet-requires
     same-length

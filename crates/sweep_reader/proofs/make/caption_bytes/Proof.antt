@@ -6,8 +6,8 @@ use lib.ListN.{length}
 use Rattle.report.specs.Made.{made}
 use Rattle.report.proofs.Filling.{made-more, made-none}
 use Rattle.sweep_reader.specs.Make.{captionByte}
-use Rattle.sweep_reader.specs.Room.{PutInRoom}
-use Rattle.sweep_reader.proofs.Rooms.{behind-as, nothing}
+use Rattle.text.specs.Room.{PutInRoom}
+use Rattle.text.proofs.Rooms.{behind-as, nothing}
 use native.Mathlib.Omega.{arith}
 use borrow.Author.Needs.{needs}
 use Rattle.sweep_reader.proofs.make.caption_bytes.Statement.{statement}
@@ -26,8 +26,8 @@ loop-holds c = (omega arith, omega arith, rw (made-none _) (nothing _ _))
 caption-byte-requires : tie.Need-caption-byte-requires Inv-loop μ-loop
 caption-byte-requires c κs = search needs
 
-put-requires : tie.Need-put-requires Inv-loop μ-loop
-put-requires c κs = search needs
+byte-requires : tie.Need-byte-requires Inv-loop μ-loop
+byte-requires c κs = search needs
 
 add-k : tie.Need-add-k Inv-loop μ-loop
 add-k c = search needs
@@ -40,7 +40,7 @@ loop-again c =
     let put = c .before .before in
     let made = put .before in
     let turn = made .before .before .before in
-    let one = rw (made .caption-byte .ensures) at (put .put .ensures) in
+    let one = rw (made .caption-byte .ensures) at (put .byte .ensures) in
     (omega arith, omega arith, behind-as (turn .loop .inv .2) one (made-more (captionByte _) _))
 
 same-length : tie.Need-same-length Inv-loop μ-loop
@@ -59,7 +59,7 @@ caption-bytes-spec =
     μ-loop
     loop-holds
     caption-byte-requires
-    put-requires
+    byte-requires
     add-k
     loop-less
     loop-again

@@ -2,7 +2,7 @@
 -- Assumes nothing.
 use borrow.Author.Tests.{eq-eqb, ne-eqb}
 use Rattle.sweep_reader.specs.Make.{captionsMade}
-use Rattle.sweep_reader.proofs.Rooms.{behind, nothing}
+use Rattle.text.proofs.Rooms.{behind, nothing}
 use borrow.Author.Needs.{needs}
 use Rattle.sweep_reader.proofs.make.captions.Statement.{statement}
 use Rattle.sweep_reader.proofs.make.captions.Tie as tie
@@ -14,11 +14,11 @@ returns c = simp (eq-eqb _ _ (c .if1 .taken)) (nothing _ _)
 add-t7 : tie.Need-add-t7
 add-t7 c = search needs
 
-slice-aggregate-put-all : tie.Need-slice-aggregate-put-all
-slice-aggregate-put-all c = search needs
+slice-aggregate-word : tie.Need-slice-aggregate-word
+slice-aggregate-word c = search needs
 
-put-all-requires : tie.Need-put-all-requires
-put-all-requires c κs = search needs
+word-requires : tie.Need-word-requires
+word-requires c κs = search needs
 
 mul-caption-bytes : tie.Need-mul-caption-bytes
 mul-caption-bytes c = search needs
@@ -36,7 +36,7 @@ returns-2 c =
     let between = run .before .before in
     let head = between .before .before in
     let lent = head .before .before in
-    simp (ne-eqb _ _ (lent .before .before .if1 .left)) (behind (head .put-all .ensures) (run .caption-bytes .ensures))
+    simp (ne-eqb _ _ (lent .before .before .if1 .left)) (behind (head .word .ensures) (run .caption-bytes .ensures))
 
 pub captions-spec : {M : Type 1} → statement M
 captions-spec =
@@ -44,8 +44,8 @@ captions-spec =
     (tie.spec
     returns
     add-t7
-    slice-aggregate-put-all
-    put-all-requires
+    slice-aggregate-word
+    word-requires
     mul-caption-bytes
     caption-bytes-requires
     same-length

@@ -4,9 +4,9 @@ use mathlib.Core.Path.{_≡_}
 use Prim.Native.Nat.{_≤_, _-_}
 use lib.ListN.{length}
 use Rattle.sweep_reader.specs.Make.{entriesMade}
-use Rattle.sweep_reader.specs.Room.{PutInRoom}
+use Rattle.text.specs.Room.{PutInRoom}
 use Rattle.sweep_reader.proofs.Parts.{entries-more, entries-none}
-use Rattle.sweep_reader.proofs.Rooms.{behind-as, nothing}
+use Rattle.text.proofs.Rooms.{behind-as, nothing}
 use native.Mathlib.Omega.{arith}
 use borrow.Author.Needs.{needs}
 use Rattle.sweep_reader.proofs.make.entries.Statement.{statement}
@@ -25,11 +25,11 @@ loop-holds c = (omega arith, omega arith, rw (entries-none _) (nothing _ _))
 bytes-requires : tie.Need-bytes-requires Inv-loop μ-loop
 bytes-requires c κs = search needs
 
-slice-aggregate-put-all : tie.Need-slice-aggregate-put-all Inv-loop μ-loop
-slice-aggregate-put-all c = rw (c .before .before .bytes .ensures)
+slice-aggregate-word : tie.Need-slice-aggregate-word Inv-loop μ-loop
+slice-aggregate-word c = rw (c .before .before .bytes .ensures)
 
-put-all-requires : tie.Need-put-all-requires Inv-loop μ-loop
-put-all-requires c κs = search needs
+word-requires : tie.Need-word-requires Inv-loop μ-loop
+word-requires c κs = search needs
 
 add-k : tie.Need-add-k Inv-loop μ-loop
 add-k c = search needs
@@ -43,7 +43,7 @@ loop-again c =
     let t = s .before .before .before in (
       omega arith,
       omega arith,
-      behind-as (t .before .before .loop .inv .2) (rw (t .bytes .ensures) at (s .put-all .ensures))
+      behind-as (t .before .before .loop .inv .2) (rw (t .bytes .ensures) at (s .word .ensures))
           (entries-more _ _),
     )
 
@@ -63,8 +63,8 @@ entries-spec =
     μ-loop
     loop-holds
     bytes-requires
-    slice-aggregate-put-all
-    put-all-requires
+    slice-aggregate-word
+    word-requires
     add-k
     loop-less
     loop-again

@@ -3,16 +3,16 @@
 use mathlib.Core.Path.{_∙_, ap}
 use Rattle.sweep_reader.specs.Make.{finished}
 use Rattle.sweep_reader.specs.Mend.{packetMended}
-use Rattle.sweep_reader.proofs.Rooms.{put-set}
+use Rattle.text.proofs.Rooms.{put-set}
 use borrow.Author.Needs.{needs}
 use Rattle.sweep_reader.proofs.make.finish.Statement.{statement}
 use Rattle.sweep_reader.proofs.make.finish.Tie as tie
 
-cast-put : tie.Need-cast-put
-cast-put c = search needs
+cast-byte : tie.Need-cast-byte
+cast-byte c = search needs
 
-put-requires : tie.Need-put-requires
-put-requires c κs = search needs
+byte-requires : tie.Need-byte-requires
+byte-requires c κs = search needs
 
 mend-requires : tie.Need-mend-requires
 mend-requires c κs = search needs
@@ -25,7 +25,7 @@ unfolding finished
 returns c =
     let mend = c .before .before in
     let between = mend .before .before in
-    mend .mend .ensures ∙ ap (packetMended _) (put-set _ _ _ (between .before .before .put .ensures))
+    mend .mend .ensures ∙ ap (packetMended _) (put-set _ _ _ (between .before .before .byte .ensures))
 
 pub finish-spec : {M : Type 1} → statement M
-finish-spec = tie.close (tie.spec cast-put put-requires mend-requires same-length returns)
+finish-spec = tie.close (tie.spec cast-byte byte-requires mend-requires same-length returns)

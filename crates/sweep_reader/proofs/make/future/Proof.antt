@@ -1,15 +1,15 @@
 -- `sweep_reader::make::future`: its two bytes, then its content.
 -- Assumes nothing.
-use Rattle.sweep_reader.proofs.Rooms.{behind}
+use Rattle.text.proofs.Rooms.{behind}
 use borrow.Author.Needs.{needs}
 use Rattle.sweep_reader.proofs.make.future.Statement.{statement}
 use Rattle.sweep_reader.proofs.make.future.Tie as tie
 
-slice-aggregate-put-all : tie.Need-slice-aggregate-put-all
-slice-aggregate-put-all c = search needs
+slice-aggregate-word : tie.Need-slice-aggregate-word
+slice-aggregate-word c = search needs
 
-put-all-requires : tie.Need-put-all-requires
-put-all-requires c κs = search needs
+word-requires : tie.Need-word-requires
+word-requires c κs = search needs
 
 repeat-requires : tie.Need-repeat-requires
 repeat-requires c κs = search needs
@@ -21,9 +21,9 @@ returns : tie.Need-returns
 returns c =
     let rest = c .before .before in
     let between = rest .before .before in
-    behind (between .before .before .put-all .ensures) (rest .repeat .ensures)
+    behind (between .before .before .word .ensures) (rest .repeat .ensures)
 
 pub future-spec : {M : Type 1} → statement M
 future-spec =
     tie.close
-    (tie.spec slice-aggregate-put-all put-all-requires repeat-requires same-length returns)
+    (tie.spec slice-aggregate-word word-requires repeat-requires same-length returns)

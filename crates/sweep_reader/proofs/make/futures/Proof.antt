@@ -2,7 +2,7 @@
 -- Assumes nothing.
 use borrow.Author.Tests.{eq-eqb, ne-eqb}
 use Rattle.sweep_reader.specs.Make.{futuresMade}
-use Rattle.sweep_reader.proofs.Rooms.{behind, nothing}
+use Rattle.text.proofs.Rooms.{behind, nothing}
 use borrow.Author.Needs.{needs}
 use Rattle.sweep_reader.proofs.make.futures.Statement.{statement}
 use Rattle.sweep_reader.proofs.make.futures.Tie as tie

@@ -1,7 +1,7 @@
 -- `sweep_reader::make::packet`: what is put is within the buffer, and is finished there.
 -- Assumes nothing.
 use Rattle.sweep_reader.proofs.Parts.{packet-put}
-use Rattle.sweep_reader.proofs.Rooms.{put-within}
+use Rattle.text.proofs.Rooms.{put-within}
 use native.Mathlib.Omega.{arith}
 use borrow.Author.Needs.{needs}
 use Rattle.sweep_reader.proofs.make.packet.Statement.{statement}

@@ -1,7 +1,7 @@
 -- `sweep_reader::make::parts`: each part behind the one before it.
 -- Assumes nothing.
 use Rattle.sweep_reader.specs.Make.{partsMade}
-use Rattle.sweep_reader.proofs.Rooms.{behind}
+use Rattle.text.proofs.Rooms.{behind}
 use borrow.Author.Needs.{needs}
 use Rattle.sweep_reader.proofs.make.parts.Statement.{statement}
 use Rattle.sweep_reader.proofs.make.parts.Tie as tie

@@ -2,7 +2,7 @@
 -- Assumes nothing.
 use borrow.Author.Tests.{eq-eqb, ne-eqb}
 use Rattle.sweep_reader.specs.Make.{servicesMade}
-use Rattle.sweep_reader.proofs.Rooms.{behind, nothing}
+use Rattle.text.proofs.Rooms.{behind, nothing}
 use borrow.Author.Needs.{needs}
 use Rattle.sweep_reader.proofs.make.services.Statement.{statement}
 use Rattle.sweep_reader.proofs.make.services.Tie as tie
@@ -20,11 +20,11 @@ add-t11 c = search needs
 add-t12 : tie.Need-add-t12
 add-t12 c = search needs
 
-slice-aggregate-put-all : tie.Need-slice-aggregate-put-all
-slice-aggregate-put-all c = search needs
+slice-aggregate-word : tie.Need-slice-aggregate-word
+slice-aggregate-word c = search needs
 
-put-all-requires : tie.Need-put-all-requires
-put-all-requires c κs = search needs
+word-requires : tie.Need-word-requires
+word-requires c κs = search needs
 
 entries-requires : tie.Need-entries-requires
 entries-requires c κs = search needs
@@ -40,7 +40,7 @@ returns-2 c =
     let head = between .before .before in
     let lent = head .before .before in
     simp (ne-eqb _ _ (lent .before .before .before .if1 .left))
-    (behind (head .put-all .ensures) (list .entries .ensures))
+    (behind (head .word .ensures) (list .entries .ensures))
 
 pub services-spec : {M : Type 1} → statement M
 services-spec =
@@ -50,8 +50,8 @@ services-spec =
     mul-t10
     add-t11
     add-t12
-    slice-aggregate-put-all
-    put-all-requires
+    slice-aggregate-word
+    word-requires
     entries-requires
     same-length
     returns-2)

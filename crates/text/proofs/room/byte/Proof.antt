@@ -1,9 +1,9 @@
--- `sweep_reader::bytes::put`: one byte, where there is room for it.
+-- `text::byte`: one byte, where there is room for it.
 -- Assumes nothing.
-use Rattle.sweep_reader.proofs.Rooms.{one, no-room}
+use Rattle.text.proofs.Rooms.{one, no-room}
 use borrow.Author.Needs.{needs}
-use Rattle.sweep_reader.proofs.bytes.put.Statement.{statement}
-use Rattle.sweep_reader.proofs.bytes.put.Tie as tie
+use Rattle.text.proofs.room.byte.Statement.{statement}
+use Rattle.text.proofs.room.byte.Tie as tie
 
 slice-write-out : tie.Need-slice-write-out
 slice-write-out c = search needs
@@ -20,5 +20,5 @@ returns c = one _ _ _ (c .if1 .taken)
 returns-2 : tie.Need-returns-2
 returns-2 c = no-room _ _ _ (c .if1 .left)
 
-pub put-spec : {M : Type 1} → statement M
-put-spec = tie.close (tie.spec slice-write-out add-result same-length returns returns-2)
+pub byte-spec : {M : Type 1} → statement M
+byte-spec = tie.close (tie.spec slice-write-out add-result same-length returns returns-2)

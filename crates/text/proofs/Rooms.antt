@@ -22,7 +22,7 @@ use lib.ListN.{
 use lib.Seq.{append-snoc, drop-at, set-out, set-split, take-all, take-suc}
 use Rattle.basis.proofs.Puts.{over-nil, over-over, take-over}
 use Rattle.basis.specs.Bytes.{over}
-use Rattle.sweep_reader.specs.Room.{PutInRoom, fittingPart}
+use Rattle.text.specs.Room.{PutInRoom, fittingPart}
 
 -- as many of two runs as there is room for
 take-join : (n : ℕ) (xs ys : List ℕ) → take n xs ++ take (n - length xs) ys ≡ take n (xs ++ ys)

@@ -1,0 +1,4 @@
+pub mod Room
+pub mod Ascii
+pub mod Digits
+pub mod Lines
