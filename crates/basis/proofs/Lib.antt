@@ -3,3 +3,4 @@ pub mod Masks
 pub mod Puts
 pub mod Verdicts
 pub mod Places
+pub mod Writes

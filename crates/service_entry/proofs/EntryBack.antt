@@ -17,17 +17,9 @@ use Rattle.basis.specs.Mask.{Mask, flag, under, allSet, x80, x40, x3F}
 use Rattle.service_entry.specs.Entry.{entryChecks, entryOf, entryRead, serviceOf}
 use Rattle.service_entry.specs.Code.{sevenOf, sixOf, within}
 use Rattle.service_entry.specs.Service.{entry}
-use Rattle.service_entry.specs.EntryWriting.{
-  writable,
-  kindByte,
-  flagsByte,
-  entryBytes,
-  entryCheck,
-  entryWritten,
-  sevenBytes,
-  Written,
-}
-use Rattle.service_entry.proofs.EntryWrites.{first-bytes, room-done}
+use Rattle.basis.specs.Writing.{Written}
+use Rattle.service_entry.specs.EntryWriting.{writable, kindByte, flagsByte, entryBytes, entryCheck, entryWritten, sevenBytes}
+use Rattle.basis.proofs.Writes.{first-bytes, room-done}
 use Rattle.service_entry.specs.declared.entry.ServiceEntry.{ServiceEntry}
 use Rattle.service_entry.specs.declared.service.DigitalServiceEntry.{DigitalServiceEntry}
 use Rattle.service_entry.specs.declared.service.FieldOrService.{FieldOrService}

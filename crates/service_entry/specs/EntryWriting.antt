@@ -5,22 +5,13 @@ use Prim.Native.Nat.{ℕ, _+_}
 use lib.Dec.{leb}
 use lib.ListN.{length}
 use Rattle.basis.specs.Answer.{NotWritable}
-use Rattle.basis.specs.Bytes.{byte, over}
-use Rattle.basis.specs.Check.{Check, Verdict, check, roomCheck, verdict, answer, ifClear}
+use Rattle.basis.specs.Bytes.{byte}
+use Rattle.basis.specs.Check.{Check, check, roomCheck, verdict}
 use Rattle.basis.specs.Mask.{flag}
+use Rattle.basis.specs.Writing.{Written, written}
 use Rattle.service_entry.specs.declared.entry.ServiceEntry.{ServiceEntry}
 use Rattle.service_entry.specs.declared.service.FieldOrService.{FieldOrService}
 use Rattle.service_entry.specs.declared.service.FieldOrService.the-variants.{Field, Service}
-use Rattle.basis.specs.declared.answer.Answer.{Answer}
-
--- what a writer leaves: its answer, and the lent buffer whole
-pub record Written : Type 0 where
-  pub answer : Answer
-  pub buffer : List ℕ
-
--- these bytes from the buffer's start on, where all is clear; else the buffer as it was
-abbrev pub written : Verdict → List ℕ → List ℕ → Written
-written v bytes buffer = record { answer = answer v (length bytes); buffer = ifClear v (over 0 bytes buffer) buffer }
 
 -- how many bytes an entry has
 abbrev pub entryLength : ℕ

@@ -32,7 +32,8 @@ use Rattle.service_entries.specs.Entries.{
 use Rattle.service_list.specs.Section.{sectionRead, listOf}
 use Rattle.service_entry.specs.Service.{numberOf}
 use Rattle.service_list.specs.ServiceList.{list, empty}
-use Rattle.service_entry.specs.EntryWriting.{Written, writable, headerByte, entryBytes, sevenBytes}
+use Rattle.basis.specs.Writing.{Written}
+use Rattle.service_entry.specs.EntryWriting.{writable, headerByte, entryBytes, sevenBytes}
 use Rattle.service_list.specs.Code.{allWritable}
 use Rattle.service_list.specs.SectionWriting.{entryListBytes, counted, sectionByte, sectionBytes, sectionWritten}
 use Rattle.service_entry.specs.declared.entry.ServiceEntry.{ServiceEntry}
@@ -40,7 +41,7 @@ use Rattle.service_list.specs.declared.list.ServiceInfo.{ServiceInfo}
 use Rattle.service_entry.specs.declared.service.FieldOrService.{FieldOrService}
 use Rattle.service_entry.specs.declared.service.FieldOrService.the-variants.{Field, Service}
 use Rattle.service_list.proofs.SectionWrites.{bytes-length, counted-length, value-done, written-done}
-use Rattle.service_entry.proofs.EntryWrites.{first-bytes}
+use Rattle.basis.proofs.Writes.{first-bytes}
 use Rattle.service_entry.proofs.EntryBack.{all-set, number-high, service-back, entry-clear, entry-of-back}
 
 -- clear, or 7 where the entries name field 2

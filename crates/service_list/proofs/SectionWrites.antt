@@ -21,7 +21,8 @@ use Rattle.service_entry.specs.Service.{filler}
 use Rattle.service_list.specs.ServiceList.{byteLen}
 use Rattle.service_entry.proofs.EntryBack.{seven-of}
 use Rattle.service_entry.specs.Code.{sevenOf}
-use Rattle.service_entry.specs.EntryWriting.{sevenBytes, writable, written}
+use Rattle.basis.specs.Writing.{written}
+use Rattle.service_entry.specs.EntryWriting.{sevenBytes, writable}
 use Rattle.service_list.specs.Code.{allWritable, valueAnswer}
 use Rattle.service_list.specs.SectionWriting.{
   counted,
@@ -32,7 +33,7 @@ use Rattle.service_list.specs.SectionWriting.{
   sectionWritten,
   valueChecks,
 }
-use Rattle.service_entry.proofs.EntryWrites.{Leaves, all-fits, no-room, room-done, values-refused}
+use Rattle.basis.proofs.Writes.{Leaves, all-fits, no-room, room-done, values-refused}
 use Rattle.service_list.proofs.Writable.{entries-verdict, same-place}
 use Rattle.service_entry.specs.declared.entry.ServiceEntry.{ServiceEntry}
 use Rattle.service_list.specs.declared.list.ServiceInfo.{ServiceInfo}

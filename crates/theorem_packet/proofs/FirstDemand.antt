@@ -12,7 +12,8 @@ use Rattle.basis.specs.Bytes.{over}
 use Rattle.basis.specs.Code.{fitting, put, putAnswer}
 use Rattle.values_time.specs.Time as Time
 use Rattle.service_entry.specs.Entry as Entry
-use Rattle.service_entry.specs.EntryWriting.{entryBytes, entryCheck, entryWritten, written}
+use Rattle.basis.specs.Writing.{written}
+use Rattle.service_entry.specs.EntryWriting.{entryBytes, entryCheck, entryWritten}
 use Rattle.service_list.specs.Section as Section
 use Rattle.service_entries.specs.Entries.{places}
 use Rattle.service_entries.specs.Code.{entriesRead, sectionAnswer}

@@ -14,8 +14,8 @@ use Rattle.basis.specs.Bytes.{over}
 use Rattle.basis.specs.Check.{answer, clear, ifClear, sizeWhen, verdict, when}
 use Rattle.values.specs.Checksum.{negative, total}
 use Rattle.values.specs.Rate.{present}
-use Rattle.service_entry.proofs.EntryWrites.{first-bytes}
-use Rattle.service_entry.specs.EntryWriting.{Written}
+use Rattle.basis.proofs.Writes.{first-bytes}
+use Rattle.basis.specs.Writing.{Written}
 use Rattle.service_list.proofs.SectionBack.{named}
 use Rattle.read_captions.specs.Captions.{captionsChecks, captionsSize, handedOut}
 use Rattle.read_header.specs.Header.{flagsIn, headerChecks, rateOf, sequenceIn}

@@ -12,7 +12,7 @@ use Rattle.theorem_packet.specs.RoundTrip.{Languages, writtenPacket}
 use Rattle.writer.specs.Writer.{heldWritten}
 use Rattle.theorem_round_trip.specs.Back.{WrittenAndRead}
 use Rattle.basis.specs.declared.answer.Answer.{Answer}
-use Rattle.service_entry.specs.EntryWriting.{Written}
+use Rattle.basis.specs.Writing.{Written}
 use Rattle.reader.specs.declared.parser.CDPParser.{CDPParser}
 use Rattle.reader.specs.declared.parser.CDPParserRead.{CDPParserRead}
 use Rattle.values.specs.declared.framerate.Framerate.{Framerate}

@@ -10,8 +10,8 @@ use Rattle.basis.proofs.Verdicts.{refused-shows}
 use Rattle.basis.specs.Answer.{BufferTooShort, done, refused}
 use Rattle.basis.specs.Bytes.{over}
 use Rattle.basis.specs.Check.{Verdict, answer, clear, ifClear, roomCheck, verdict}
-use Rattle.service_entry.proofs.EntryWrites.{Leaves, all-fits, no-room, room-done, roomLast, values-refused}
-use Rattle.service_entry.specs.EntryWriting.{Written, written}
+use Rattle.basis.proofs.Writes.{Leaves, all-fits, no-room, room-done, roomLast, values-refused}
+use Rattle.basis.specs.Writing.{Written, written}
 use Rattle.write_checks.proofs.Tests.{length-most}
 use Rattle.write_bytes.proofs.Parts.{packet-length}
 use Rattle.write_checks.specs.Checks.{packetWriteChecks, packetLength}

@@ -10,7 +10,7 @@ use Rattle.values.specs.Flags.{flagByte}
 use Rattle.values.specs.Layout.{timeCodeId, captionsId, footerId, tripletSize}
 use Rattle.values.specs.Sequence.{sequenceBytes}
 use Rattle.values_time.specs.Time.{timeBytes}
-use Rattle.service_entry.specs.EntryWriting.{Written}
+use Rattle.basis.specs.Writing.{Written}
 use Rattle.service_list.specs.SectionWriting.{sectionBytes}
 use Rattle.write_checks.specs.Checks.{packetWriteChecks, packetLength}
 use Rattle.service_list.specs.declared.list.MaybeServiceInfo.{MaybeServiceInfo}

@@ -3,7 +3,7 @@ use mathlib.Core.Bool.{cond}
 use mathlib.Core.List.{List, [], _∷_}
 use Prim.Native.Nat.{ℕ}
 use Rattle.basis.specs.Check.{Check, when, verdict, answer, ifClear}
-use Rattle.service_entry.specs.EntryWriting.{Written}
+use Rattle.basis.specs.Writing.{Written}
 use Rattle.write_bytes.specs.PacketWriting as Writing
 use Rattle.values_time.specs.Time.{timeAbsent}
 use Rattle.service_list.specs.ServiceList.{countCheck, listAbsent}
