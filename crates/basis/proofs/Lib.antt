@@ -4,3 +4,4 @@ pub mod Puts
 pub mod Verdicts
 pub mod Places
 pub mod Writes
+pub mod Mades

@@ -1,4 +1,4 @@
--- Bytes made from their place, one after the other; and a buffer that is filled with them.
+-- A buffer that is filled with bytes that are made from their places.
 -- Assumes nothing.
 use mathlib.Core.Path.{_≡_, refl}
 use mathlib.Core.List.{List, [], _∷_, _++_, append-nil}
@@ -7,17 +7,10 @@ use native.Mathlib.Numerals.{add-one}
 use native.Mathlib.Omega.{arith}
 use lib.ListN.{length, getD, set, drop, length-append, drop-of-length-le}
 use lib.Seq.{append-snoc, drop-cons, set-at}
-use Rattle.report.specs.Made.{made}
+use Rattle.basis.proofs.Mades.{made-more}
+use Rattle.basis.specs.Made.{made}
 
 module _ (f : ℕ → ℕ) where
-  pub made-none : made f 0 ≡ []
-  unfolding made
-  made-none = refl
-
-  pub made-more : (n : ℕ) → made f n ++ f n ∷ [] ≡ made f (n + 1)
-  unfolding made
-  made-more n = rw (add-one n)
-
   pub length-made : (n : ℕ) → length (made f n) ≡ n
   unfolding made
   length-made zero = refl

@@ -7,7 +7,7 @@ use lib.ListN.{length, replicate, set, take}
 use Rattle.values.specs.Layout.{timeCodeId, captionsId, servicesId, footerId}
 use Rattle.values.specs.Sequence.{sequenceBytes}
 use Rattle.basis.specs.Bytes.{byte}
-use Rattle.report.specs.Made.{made}
+use Rattle.basis.specs.Made.{made}
 use Rattle.report.specs.Recipe.{names}
 use Rattle.sweep_reader.specs.Mend.{packetMended}
 use Rattle.sweep_reader.specs.declared.recipes.Recipe.{Recipe}

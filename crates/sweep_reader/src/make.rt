@@ -3,7 +3,7 @@ ghost use mathlib.Core.Path.{_≡_};
 ghost use Prim.Native.Nat.{_/_, _%_};
 ghost use lib.ListN.{length};
 ghost use Rattle.basis.specs.Bytes.{over};
-ghost use Rattle.report.specs.Made.{made};
+ghost use Rattle.basis.specs.Made.{made};
 ghost use Rattle.sweep_reader.specs.Make as Make;
 ghost use Rattle.text.specs.Room.{PutInRoom};
 use crate::bytes::repeat;

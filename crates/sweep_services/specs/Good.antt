@@ -5,7 +5,7 @@ use Prim.Native.Nat.{ℕ, _+_, _-_, _*_, _/_, _%_}
 use lib.Dec.{eqb, ltb}
 use lib.ListN.{getD}
 use Rattle.basis.specs.Bytes.{byte}
-use Rattle.report.specs.Made.{made}
+use Rattle.basis.specs.Made.{made}
 use Rattle.report.specs.Recipe.{names}
 use Rattle.values.specs.Layout.{servicesId, sectionLength}
 

@@ -2,6 +2,7 @@
 use mathlib.Core.Bool.{Bool, cond}
 use mathlib.Core.List.{List, [], _∷_, _++_}
 use Prim.Native.Nat.{ℕ, zero, suc, _/_, _%_}
+use Prim.Native.String.{String}
 use lib.Dec.{ltb}
 use Rattle.basis.specs.Bytes.{byte}
 use Rattle.text.specs.Ascii.{ascii}
@@ -30,3 +31,16 @@ hexText b = digitOf (b / 16) ∷ digitOf (b % 16) ∷ []
 -- 1 where the flag is on, else 0
 unfoldable pub flagText : Bool → List ℕ
 flagText on = cond on (ascii "1") (ascii "0")
+
+-- each of these behind a word that names it
+abbrev pub numberAfter : String → ℕ → List ℕ
+numberAfter name n = ascii name ++ decimalText n
+
+abbrev pub twoAfter : String → ℕ → List ℕ
+twoAfter name n = ascii name ++ twoDigits n
+
+abbrev pub hexAfter : String → ℕ → List ℕ
+hexAfter name b = ascii name ++ hexText b
+
+abbrev pub flagAfter : String → Bool → List ℕ
+flagAfter name on = ascii name ++ flagText on

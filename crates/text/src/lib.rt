@@ -1,7 +1,8 @@
-// Text in a lent buffer: each function puts its bytes from a place on, as many as there is room for, and gives the place
-// behind them.
+// Text in a lent buffer. A piece is put from a place on, as much of it as there is room for, and the place behind it is
+// given; a whole text is put only where all of it fits.
 mod digits;
 mod room;
+mod whole;
 
 pub use digits::flag;
 pub use digits::hex;
@@ -9,3 +10,4 @@ pub use digits::number;
 pub use digits::two_digits;
 pub use room::byte;
 pub use room::word;
+pub use whole::put_whole;

@@ -3,8 +3,8 @@
 use mathlib.Core.Path.{_≡_}
 use Prim.Native.Nat.{_≤_, _-_}
 use lib.ListN.{length}
-use Rattle.report.specs.Made.{made}
-use Rattle.report.proofs.Filling.{made-more, made-none}
+use Rattle.basis.specs.Made.{made}
+use Rattle.basis.proofs.Mades.{made-more, made-none}
 use Rattle.sweep_reader.specs.Make.{captionByte}
 use Rattle.text.specs.Room.{PutInRoom}
 use Rattle.text.proofs.Rooms.{behind-as, nothing}

@@ -3,7 +3,7 @@
 use mathlib.Core.Path.{_≡_, _∙_, ap}
 use Prim.Native.Nat.{_≤_, _-_}
 use lib.ListN.{length, length-set}
-use Rattle.report.specs.Made.{made}
+use Rattle.basis.specs.Made.{made}
 use Rattle.report.proofs.Filling.{filling, filling-none, filling-more, filling-all}
 use Rattle.sweep_services.specs.Good.{goodByte}
 use native.Mathlib.Omega.{arith}
