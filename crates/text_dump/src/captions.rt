@@ -1,0 +1,56 @@
+// The captions: their count, then a line for each.
+ghost use mathlib.Core.Path.{_≡_};
+ghost use Prim.Native.Nat.{_*_, _≤_};
+ghost use lib.ListN.{length};
+ghost use Rattle.basis.specs.Bytes.{byte};
+ghost use Rattle.basis.specs.Made.{made};
+ghost use Rattle.text.specs.Lines.{lineText, linesText};
+ghost use Rattle.text.specs.Room.{PutInRoom};
+ghost use Rattle.text_dump.specs.Lines as Lines;
+use text::hex;
+use text::number;
+use text::word;
+use values::Packet;
+
+// Two bytes stand in front of the captions, so that a third of the length is their count. Without a section there are
+// none.
+pub(crate) fn captions(out: &mut [u8], at: usize, handed_out: &[u8]) -> usize
+    ensures { λ r. ⌜ PutInRoom at (linesText (Lines.captionLines (now («handed_out» .entry)))) (now (out .entry)) r (now (out .exit)) ⌝ }
+{
+    if handed_out.len() == 0 {
+        return word(out, at, b"captions none\n");
+    }
+    let count = handed_out.len() / Packet::TRIPLET_LEN;
+    let counted = number(out, at, b"captions ", count as u64);
+    let ended = word(out, counted, b"\n");
+    triplets(out, ended, handed_out, count)
+}
+
+fn triplets(out: &mut [u8], from: usize, handed_out: &[u8], count: usize) -> usize
+    requires { ⌜ 3 * count ≤ length (now «handed_out») ⌝ }
+    ensures { λ r. ⌜ PutInRoom from (linesText (made (Lines.tripletLine (now («handed_out» .entry))) count)) (now (out .entry)) r (now (out .exit)) ⌝ }
+{
+    let mut at = from;
+    for k in 0..count {
+        at = triplet(out, at, handed_out, k);
+    }
+    at
+}
+
+fn triplet(out: &mut [u8], at: usize, handed_out: &[u8], k: usize) -> usize
+    requires { ⌜ 3 * k ≤ length (now «handed_out») ⌝ }
+    ensures { λ r. ⌜ PutInRoom at (lineText (Lines.tripletLine (now («handed_out» .entry)) k)) (now (out .entry)) r (now (out .exit)) ⌝ }
+{
+    let place = Packet::SECTION_HEAD_LEN + Packet::TRIPLET_LEN * k;
+    let first = hex(out, at, b"", byte_at(handed_out, place));
+    let second = hex(out, first, b" ", byte_at(handed_out, place + 1));
+    let third = hex(out, second, b" ", byte_at(handed_out, place + 2));
+    word(out, third, b"\n")
+}
+
+// 0 past the end.
+fn byte_at(bytes: &[u8], at: usize) -> u8
+    ensures { λ r. ⌜ r ≡ byte (now (bytes .entry)) at ⌝ }
+{
+    if at < bytes.len() { bytes[at] } else { 0 }
+}

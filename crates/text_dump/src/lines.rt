@@ -1,0 +1,89 @@
+// The lines of an answer and of what a reader shows, each part's in turn.
+ghost use Prim.Native.Nat.{_≤_};
+ghost use Rattle.service_entries.specs.Entries.{places};
+ghost use Rattle.text.specs.Lines.{lineText, linesText};
+ghost use Rattle.text.specs.Room.{PutInRoom};
+ghost use Rattle.text_dump.specs.Lines as Lines;
+use crate::captions::captions;
+use crate::list::services;
+use basis::Answer;
+use reader::CDPParser;
+use text::flag;
+use text::number;
+use text::two_digits;
+use text::word;
+use values::Framerate;
+use values_time::MaybeTimeCode;
+use values_time::TimeCode;
+
+// Of the answers that a packet can get, 1 alone has two numbers to show; the length beside 0 shows in the captions.
+pub(crate) fn answer(out: &mut [u8], at: usize, shown: Answer) -> usize
+    ensures { λ r. ⌜ PutInRoom at (lineText (Lines.answerLine shown)) (now (out .entry)) r (now (out .exit)) ⌝ }
+{
+    let named = number(out, at, b"answer ", shown.number as u64);
+    if shown.number == 1 {
+        let first = number(out, named, b" expected ", shown.first as u64);
+        let second = number(out, first, b" actual ", shown.second as u64);
+        return word(out, second, b"\n");
+    }
+    word(out, named, b"\n")
+}
+
+// What the reader shows of an accepted packet, and the captions that it handed out.
+pub(crate) fn shown(out: &mut [u8], at: usize, parser: CDPParser, handed_out: &[u8]) -> usize
+    requires { ⌜ parser .«service_info» .«service_info» .count ≤ places ⌝ }
+    ensures { λ r. ⌜ PutInRoom at (linesText (Lines.shownLines parser (now («handed_out» .entry)))) (now (out .entry)) r (now (out .exit)) ⌝ }
+{
+    let framerate = parser.framerate.framerate;
+    let time_code = parser.time_code;
+    let service_info = parser.service_info;
+    let rated = rate(out, at, framerate);
+    let counted = sequence(out, rated, parser.sequence);
+    let timed = time(out, counted, time_code);
+    let captioned = captions(out, timed, handed_out);
+    services(out, captioned, service_info)
+}
+
+fn rate(out: &mut [u8], at: usize, shown: Framerate) -> usize
+    ensures { λ r. ⌜ PutInRoom at (lineText (Lines.rateLine shown)) (now (out .entry)) r (now (out .exit)) ⌝ }
+{
+    let id = number(out, at, b"rate ", shown.id as u64);
+    let numer = number(out, id, b" ", shown.numer as u64);
+    let denom = number(out, numer, b"/", shown.denom as u64);
+    word(out, denom, b"\n")
+}
+
+fn sequence(out: &mut [u8], at: usize, shown: u16) -> usize
+    ensures { λ r. ⌜ PutInRoom at (lineText (Lines.sequenceLine shown)) (now (out .entry)) r (now (out .exit)) ⌝ }
+{
+    let count = number(out, at, b"sequence ", shown as u64);
+    word(out, count, b"\n")
+}
+
+fn time(out: &mut [u8], at: usize, shown: MaybeTimeCode) -> usize
+    ensures { λ r. ⌜ PutInRoom at (lineText (Lines.timeLine shown)) (now (out .entry)) r (now (out .exit)) ⌝ }
+{
+    if !shown.present {
+        return word(out, at, b"time none\n");
+    }
+    let time_code = shown.time_code;
+    clock(out, at, time_code)
+}
+
+fn clock(out: &mut [u8], at: usize, shown: TimeCode) -> usize
+    ensures { λ r. ⌜ PutInRoom at (lineText (Lines.clockLine shown)) (now (out .entry)) r (now (out .exit)) ⌝ }
+{
+    let told = four(out, at, shown);
+    let field = flag(out, told, b" field ", shown.field);
+    let drop = flag(out, field, b" drop ", shown.drop_frame);
+    word(out, drop, b"\n")
+}
+
+fn four(out: &mut [u8], at: usize, shown: TimeCode) -> usize
+    ensures { λ r. ⌜ PutInRoom at (Lines.fourText shown) (now (out .entry)) r (now (out .exit)) ⌝ }
+{
+    let hours = two_digits(out, at, b"time ", shown.hours);
+    let minutes = two_digits(out, hours, b":", shown.minutes);
+    let seconds = two_digits(out, minutes, b":", shown.seconds);
+    two_digits(out, seconds, b":", shown.frames)
+}
