@@ -63,3 +63,30 @@ pub decimal-is : (n count : ℕ) (text : List ℕ) → n < 2 ^ 64 → Fewest 10 
     → text ≡ decimalText n
 unfolding decimalText
 decimal-is n count text h f e = e ∙ spelled count 20 n f (few n count (ltb 20 count) refl f h)
+
+-- one digit, or one more than there are in front of it
+one-more : (small : Bool) (d e k : ℕ) (front : List ℕ) → length front ≤ k
+    → length (cond small (d ∷ []) (front ++ e ∷ [])) ≤ suc k
+one-more true d e k front h = omega arith
+one-more false d e k front h = simp length-append (omega arith)
+
+-- no more digits than there are places
+places-most : (places n : ℕ) → length (decimalIn places n) ≤ places
+places-most zero n = omega arith
+places-most (suc places) n = one-more (ltb n 10) (digitOf n) (digitOf (n % 10)) places (decimalIn places (n / 10)) (places-most places (n / 10))
+
+-- a number below ten to the power of k has k digits at most
+within : (places k n : ℕ) → n < 10 ^ suc k → length (decimalIn places n) ≤ suc k
+within zero k n h = omega arith
+within (suc places) zero n h = rw (lt-ltb n 10 h) (omega arith)
+within (suc places) (suc k) n h =
+    let more : 10 ^ suc (suc k) ≡ 10 * 10 ^ suc k = pow-succ' 10 (suc k) in
+    one-more (ltb n 10) (digitOf n) (digitOf (n % 10)) (suc k) (decimalIn places (n / 10)) (within places k (n / 10) (omega arith))
+
+pub decimal-most : (n : ℕ) → length (decimalText n) ≤ 20
+unfolding decimalText
+decimal-most n = places-most 20 n
+
+pub decimal-within : (k n : ℕ) → n < 10 ^ suc k → length (decimalText n) ≤ suc k
+unfolding decimalText
+decimal-within k n h = within 20 k n h

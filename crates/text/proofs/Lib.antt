@@ -1,3 +1,4 @@
 pub mod Rooms
 pub mod Decimals
 pub mod LinesPut
+pub mod Sizes

@@ -157,3 +157,11 @@ module _ {end : ℕ} {bytes buffer after : List ℕ} (p : PutInRoom 0 bytes buff
       let rest : drop end after ≡ drop (0 + length w) buffer =
       ap (drop end) whole ∙ drop-at w (drop (0 + length w) buffer) end (sym put-size) in
       rw (rest, w-end, other-end)
+
+  -- as many bytes as were put
+  pub put-counts : length (take end after) ≡ end
+  put-counts = ap length put-there ∙ sym put-size
+
+  -- all of them, where there is room
+  pub all-there : length bytes ≤ length buffer → take end after ≡ bytes
+  all-there h = put-there ∙ take-all (length buffer) bytes h

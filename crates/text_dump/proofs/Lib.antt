@@ -1,2 +1,3 @@
 pub mod Places
 pub mod PacketDumped
+pub mod TextMost

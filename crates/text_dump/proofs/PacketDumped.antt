@@ -13,7 +13,7 @@ use Rattle.basis.specs.Check.{Verdict, answer, clear, ifClear, roomCheck, verdi
 use Rattle.values.specs.Layout.{captionRoom}
 use Rattle.read_packet.specs.Packet.{captionsLength, packetChecks, servicesAt}
 use Rattle.read_header.specs.Header.{flagsIn}
-use Rattle.read_services.specs.Services.{servicesOf}
+use Rattle.read_services.specs.Services.{servicesOf, servicesPart}
 use Rattle.reader.proofs.ReaderReads.{captions-long}
 use Rattle.reader.proofs.Refusals.{acceptance-hands-out}
 use Rattle.reader.specs.Reader.{bufferAfter, captionsOf, cleared, read, readChecks}
@@ -44,9 +44,12 @@ module _ (p : List ℕ) (h : eqb (read freshReader p captionRoom .answer .number
   parser-is = ap (λ (v : Verdict). ifClear v (shownBy p) (cleared freshReader)) all-clear
 
 -- no list counts more than it has places for
-few-entries : (p : List ℕ) (present : Bool) (i : ℕ) → servicesOf p present i .«service_info» .count ≤ places
+pub few-listed : (d : List ℕ) → listOf d .count ≤ places
 unfolding listOf
-few-entries p true i = omega arith
+few-listed d = omega arith
+
+few-entries : (p : List ℕ) (present : Bool) (i : ℕ) → servicesOf p present i .«service_info» .count ≤ places
+few-entries p true i = few-listed (servicesPart p i)
 few-entries p false i = omega arith
 
 pub few-shown : (p : List ℕ) → shownBy p .«service_info» .«service_info» .count ≤ places

@@ -1,38 +1,47 @@
+-- `text_dump::Dump::write_into`: the text is put together where the longest has room, and then handed over whole.
+-- Assumes nothing.
+use mathlib.Core.List.{List}
+use mathlib.Core.Path.{_≡_, sym}
+use Prim.Native.Nat.{ℕ}
+use native.Mathlib.Omega.{arith}
 use borrow.Author.Needs.{needs}
+use lib.ListN.{length-take, take}
+use Rattle.text.proofs.Rooms.{all-there, put-counts}
+use Rattle.text_dump.specs.Dump.{dumpText}
+use Rattle.text_dump.proofs.TextMost.{dump-most}
 use Rattle.text_dump.proofs.dump.Dump.write_into.Statement.{statement}
 use Rattle.text_dump.proofs.dump.Dump.write_into.Tie as tie
-use Rattle.text_dump.proofs.dump.Dump.write_into.Reads as reads
-use Rattle.text_dump.proofs.dump.Dump.write_into.Lts as lts
-use Rattle.text.proofs.put_whole.Reads as put-whole-reads
-use Rattle.text_dump.proofs.dump.text_of.Reads as text-of-reads
 
--- src/dump.rt:38:37
 slice-aggregate-text-of : tie.Need-slice-aggregate-text-of
 slice-aggregate-text-of c = search needs
 
--- src/dump.rt:38:13
 text-of-requires : tie.Need-text-of-requires
 text-of-requires c κs = search needs
 
--- src/dump.rt:39:24
 array-share-prefix-text : tie.Need-array-share-prefix-text
-array-share-prefix-text c = ?
+array-share-prefix-text c =
+    let made = c .before .before in
+    omega (arith, put-counts (made .text-of .ensures), length-take (made .text-of .result) (made .text-of .last .1 .0))
 
--- src/dump.rt:39:24
 slice-aggregate-put-whole : tie.Need-slice-aggregate-put-whole
-slice-aggregate-put-whole c = ?
+slice-aggregate-put-whole c = sym (put-counts (c .before .before .before .text-of .ensures))
 
--- src/dump.rt:39:9
 put-whole-requires : tie.Need-put-whole-requires
 put-whole-requires c κs = search needs
 
--- src/dump.rt:33:5
 same-length : tie.Need-same-length
 same-length c = search needs
 
--- src/dump.rt:33:5
 returns : tie.Need-returns
-returns c = ?
+returns c =
+    let put = c .before .before in
+    let lent = put .before .before .before in
+    let made = lent .before in
+    let start = made .before .before .before in
+    let input : List ℕ = start .before .args .input .now in
+    let all : take (made .text-of .result) (made .text-of .last .1 .0) ≡ dumpText input =
+    all-there (made .text-of .ensures) (dump-most input (λ (i : ℕ). start .shared-slice-known .given i .fits)) in
+    rw all at (put .put-whole .ensures)
 
 pub write-into-spec : {M : Type 1} → statement M
 write-into-spec =
