@@ -19,7 +19,7 @@ use crate::operation::State;
 use crate::print::FAILED;
 
 // What a part of the input leaves, and whether it was the last.
-struct Ran {
+struct PartRun {
     state: State,
     last: bool,
 }
@@ -71,17 +71,17 @@ fn turn(
     lent: &mut [u8],
     out: &mut [u8],
     s: State,
-) -> Ran {
+) -> PartRun {
     let read = streams::read_part(part);
     let count = read.count;
     if count == 0 {
-        return Ran {
+        return PartRun {
             state: unread(s, read.failed),
             last: true,
         };
     }
     let state = lines(&part[..count], line, given, lent, out, s);
-    Ran {
+    PartRun {
         state,
         last: state.at == FAILED,
     }

@@ -26,6 +26,7 @@ fn straight(out: &[u8], at: usize, text: &[u8]) -> usize {
     emptied(streams::write(text))
 }
 
+// Any number has 20 digits at most.
 pub fn decimal(out: &mut [u8], at: usize, n: u64) -> usize {
     number(out, room(out, at, 20), b"", n)
 }
@@ -55,7 +56,7 @@ fn two(out: &mut [u8], at: usize, shown: u8) -> usize {
     text::hex(out, room(out, at, 2), b"", shown)
 }
 
-// Sees to room for so many bytes, which no value has more of than the buffer.
+// Writes the buffer out where fewer than so many bytes are left, so that what is put next is not cut.
 fn room(out: &[u8], at: usize, count: usize) -> usize {
     if at <= out.len() {
         if out.len() - at < count {
@@ -65,7 +66,7 @@ fn room(out: &[u8], at: usize, count: usize) -> usize {
     at
 }
 
-// Writes out what is there; the next byte goes to the buffer's start.
+// Writes out what is there, and the next byte goes to the buffer's start.
 pub fn flush(out: &[u8], at: usize) -> usize {
     if out.len() < at {
         return FAILED;
