@@ -5,7 +5,6 @@ mod print;
 mod reading;
 mod writing;
 
-use libc::STDIN_FILENO;
 use reader::CDPParser;
 use values::Packet;
 
@@ -19,10 +18,15 @@ fn main() {
     run(&mut input, &mut captions, &mut out);
 }
 
+// Of an input that cannot be read nothing is run.
 fn run(input: &mut [u8], captions: &mut [u8], out: &mut [u8]) {
-    let count = io::read_full(STDIN_FILENO, input);
+    let read = streams::read_all(input);
+    if read.failed {
+        return;
+    }
+    let count = read.count;
     if count < FRONT + Packet::MIN_PACKET_LEN {
-        print::word(b"input too short\n");
+        streams::write(b"input too short\n");
         return;
     }
     let turns = number(input[1], input[2], input[3], input[4]);

@@ -19,11 +19,16 @@ pub fn turns(packet: &mut [u8], turns: u64, captions: &mut [u8]) {
         length = read.answer.first;
         left -= 1;
     }
-    print::number(b"answers ", answers);
-    print::number(b"length ", length as u64);
-    print::number(b"sequence ", parser.sequence as u64);
-    print::number(b"services ", parser.service_info.service_info.count as u64);
-    print::sum(b"captions ", captions);
+    shown(answers, length, parser, captions);
+}
+
+// Behind a line that cannot be written there are no others.
+fn shown(answers: u64, length: usize, parser: CDPParser, captions: &[u8]) -> bool {
+    print::number(b"answers ", answers)
+        && print::number(b"length ", length as u64)
+        && print::number(b"sequence ", parser.sequence as u64)
+        && print::number(b"services ", parser.service_info.service_info.count as u64)
+        && print::sum(b"captions ", captions)
 }
 
 // The next sequence in header and footer; the checksum changes with it, so that a right one stays right and a wrong one

@@ -11,7 +11,7 @@ pub fn turns(packet: &[u8], turns: u64, captions: &mut [u8], out: &mut [u8]) {
     let length = read.answer.first;
     let parser = read.parser;
     if length < 2 {
-        print::word(b"no captions\n");
+        streams::write(b"no captions\n");
         return;
     }
     if captions.len() < length {
@@ -40,7 +40,12 @@ fn write(first: CDPWriter, framerate: Framerate, turns: u64, captions: &[u8], ou
         answers = wrapping_add_u64(answers, answer.number as u64);
         length = answer.first;
     }
-    print::number(b"answers ", answers);
-    print::number(b"length ", length as u64);
-    print::sum(b"packet ", out);
+    shown(answers, length, out);
+}
+
+// Behind a line that cannot be written there are no others.
+fn shown(answers: u64, length: usize, packet: &[u8]) -> bool {
+    print::number(b"answers ", answers)
+        && print::number(b"length ", length as u64)
+        && print::sum(b"packet ", packet)
 }

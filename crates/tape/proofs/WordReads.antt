@@ -21,7 +21,7 @@ use Rattle.tape.specs.Words.{
   bytesWord,
   capped,
   decimal,
-  digitOf,
+  digitValue,
   digitsOf,
   flagAt,
   flagWord,
@@ -73,31 +73,31 @@ module _ (line : List ℕ) (at : ℕ) where
 
 -- a byte that is a digit, and one that is none
 module _ (c : ℕ) where
-  pub digit-number : 48 ≤ c → c ≤ 57 → c - 48 ≡ digitOf c
-  unfolding digitOf
+  pub digit-number : 48 ≤ c → c ≤ 57 → c - 48 ≡ digitValue c
+  unfolding digitValue
   digit-number a b = simp (le-leb _ _ a, le-leb _ _ b)
 
-  pub digit-letter : 97 ≤ c → c ≤ 102 → c - 97 + 10 ≡ digitOf c
-  unfolding digitOf
+  pub digit-letter : 97 ≤ c → c ≤ 102 → c - 97 + 10 ≡ digitValue c
+  unfolding digitValue
   digit-letter a b =
       let over : 57 < c = omega arith in
       let low : 48 ≤ c = omega arith in
       simp (le-leb _ _ low, lt-leb _ _ over, le-leb _ _ a, le-leb _ _ b) (omega arith)
 
-  pub digit-below : c < 48 → 16 ≡ digitOf c
-  unfolding digitOf
+  pub digit-below : c < 48 → 16 ≡ digitValue c
+  unfolding digitValue
   digit-below a =
       let letters : c < 97 = omega arith in
       simp (lt-leb _ _ a, lt-leb _ _ letters)
 
-  pub digit-between : 57 < c → c < 97 → 16 ≡ digitOf c
-  unfolding digitOf
+  pub digit-between : 57 < c → c < 97 → 16 ≡ digitValue c
+  unfolding digitValue
   digit-between a b =
       let low : 48 ≤ c = omega arith in
       simp (le-leb _ _ low, lt-leb _ _ a, lt-leb _ _ b)
 
-  pub digit-above : 102 < c → 16 ≡ digitOf c
-  unfolding digitOf
+  pub digit-above : 102 < c → 16 ≡ digitValue c
+  unfolding digitValue
   digit-above a =
       let low : 48 ≤ c = omega arith in
       let numbers : 57 < c = omega arith in
@@ -110,12 +110,12 @@ module _ (line : List ℕ) (at : ℕ) where
   unfolding digitsOf
   digits-end h = rw (drop-of-length-le line {i = at} h)
 
-  digits-stop : at < length line → 9 < digitOf (byte line at) → digitsOf (drop at line) ≡ []
+  digits-stop : at < length line → 9 < digitValue (byte line at) → digitsOf (drop at line) ≡ []
   unfolding digitsOf
   digits-stop h d = rw (drop-cons line at 0 h) (simp (lt-leb _ _ d))
 
-  digits-more : at < length line → digitOf (byte line at) ≤ 9
-      → digitsOf (drop at line) ≡ digitOf (byte line at) ∷ digitsOf (drop (at + 1) line)
+  digits-more : at < length line → digitValue (byte line at) ≤ 9
+      → digitsOf (drop at line) ≡ digitValue (byte line at) ∷ digitsOf (drop (at + 1) line)
   unfolding digitsOf
   digits-more h d = rw (add-one at, drop-cons line at 0 h) (simp (le-leb _ _ d))
 
@@ -158,7 +158,7 @@ pub digits-none : (line : List ℕ) (from : ℕ) → DigitsRead line from 0 from
 digits-none line from = record { small = omega arith; number = refl; place = refl }
 
 module _ {line : List ℕ} {from value at : ℕ} (so-far : DigitsRead line from value at) where
-  pub digits-next : (digit next : ℕ) → at < length line → digit ≡ digitOf (byte line at) → digit ≤ 9
+  pub digits-next : (digit next : ℕ) → at < length line → digit ≡ digitValue (byte line at) → digit ≤ 9
       → next ≡ capped (value * 10 + digit)
       → DigitsRead line from next (at + 1)
   unfolding decimal
@@ -170,7 +170,7 @@ module _ {line : List ℕ} {from value at : ℕ} (so-far : DigitsRead line from 
         number =
             so-far .number
             ∙ ap (λ (ds : List ℕ). capped (decimal value ds)) more
-            ∙ sym (capped-goes-on (value * 10 + digitOf (byte line at)) rest)
+            ∙ sym (capped-goes-on (value * 10 + digitValue (byte line at)) rest)
             ∙ ap (λ (v : ℕ). capped (decimal v rest)) (sym (n ∙ ap (λ (d : ℕ). capped (value * 10 + d)) e));
         place = omega (arith, so-far .place, ap length more);
       }
@@ -184,7 +184,7 @@ module _ {line : List ℕ} {from value at : ℕ} (so-far : DigitsRead line from 
     omega (arith, so-far .place, ap length none),
   )
 
-  pub digits-stopped : at < length line → 9 < digitOf (byte line at)
+  pub digits-stopped : at < length line → 9 < digitValue (byte line at)
       → (value ≡ capped (decimal 0 (digitsOf (drop from line)))) × (at ≡ from + length (digitsOf (drop from line)))
   digits-stopped h d = digits-all (digits-stop line at h d)
 
@@ -245,22 +245,22 @@ and-false false = refl
 
 module _ (line : List ℕ) (at : ℕ) where
   pub byte-past : length line ≤ at + 1 → byteWord 0 nowhere ≡ byteAt line at
-  unfolding byteAt digitOf
+  unfolding byteAt digitValue
   byte-past h =
       let zero-there : byte line (at + 1) ≡ 0 = List·getD-eq-default line 0 {n = at + 1} h in
       rw zero-there (simp and-false)
 
   -- no byte begins with a dash
   byte-dash : byte line at ≡ 45 → byteAt line at ≡ byteWord 0 nowhere
-  unfolding byteAt digitOf
+  unfolding byteAt digitValue
   byte-dash h = rw h
 
   pub byte-behind : (byteAt line at .next ≡ nowhere → ⊥) → byteAt line at .next ≡ at + 2
   unfolding byteAt
-  byte-behind h = by-test (ltb (digitOf (byte line at)) 16 && ltb (digitOf (byte line (at + 1))) 16) h
+  byte-behind h = by-test (ltb (digitValue (byte line at)) 16 && ltb (digitValue (byte line (at + 1))) 16) h
     where
       value : ℕ
-      value = digitOf (byte line at) * 16 + digitOf (byte line (at + 1))
+      value = digitValue (byte line at) * 16 + digitValue (byte line (at + 1))
 
       by-test : (t : Bool) → (cond t (byteWord value (at + 2)) (byteWord 0 nowhere) .next ≡ nowhere → ⊥)
           → cond t (byteWord value (at + 2)) (byteWord 0 nowhere) .next ≡ at + 2

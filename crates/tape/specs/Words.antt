@@ -37,13 +37,13 @@ unfoldable pub flagAt : List ℕ → ℕ → FlagWord
 flagAt line at = cond (isNowhere (markAt line at 48)) (flagWord true (markAt line at 49)) (flagWord false (markAt line at 48))
 
 -- the value of a digit, 0 to 9 and a to f; 16 for what is none
-unfoldable pub digitOf : ℕ → ℕ
-digitOf c = cond (leb 48 c && leb c 57) (c - 48) (cond (leb 97 c && leb c 102) (c - 87) 16)
+unfoldable pub digitValue : ℕ → ℕ
+digitValue c = cond (leb 48 c && leb c 57) (c - 48) (cond (leb 97 c && leb c 102) (c - 87) 16)
 
 -- the decimal digits that these bytes begin with
 unfoldable pub digitsOf : List ℕ → List ℕ
 digitsOf [] = []
-digitsOf (c ∷ cs) = cond (leb (digitOf c) 9) (digitOf c ∷ digitsOf cs) []
+digitsOf (c ∷ cs) = cond (leb (digitValue c) 9) (digitValue c ∷ digitsOf cs) []
 
 -- the number that these digits make behind those of another number
 unfoldable pub decimal : ℕ → List ℕ → ℕ
@@ -79,7 +79,7 @@ pairOf high low next = cond (ltb high 16 && ltb low 16) (byteWord (high * 16 + l
 
 -- a byte; past the end there is no digit
 unfoldable pub byteAt : List ℕ → ℕ → ByteWord
-byteAt line at = pairOf (digitOf (byte line at)) (digitOf (byte line (at + 1))) (at + 2)
+byteAt line at = pairOf (digitValue (byte line at)) (digitValue (byte line (at + 1))) (at + 2)
 
 -- the bytes one after the other from a place on, no more than so many
 unfoldable pub pairsFrom : ℕ → List ℕ → ℕ → List ℕ

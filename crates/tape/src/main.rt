@@ -15,9 +15,14 @@ mod write;
 
 ghost use Prim.Native.Nat.{_≤_};
 ghost use lib.ListN.{length};
-ghost use Rattle.io.specs.Counts.{Counts};
 use crate::operation::State;
-use libc::STDIN_FILENO;
+use crate::print::FAILED;
+
+// What a part of the input leaves, and whether it was the last.
+struct PartRun {
+    state: State,
+    last: bool,
+}
 
 // All buffers are made here, once, and lent from here on: a part of the input, a line, the bytes that a line gives, the
 // bytes that a line lends, and what is to be printed. A longer line than the buffer's is malformed.
@@ -48,22 +53,46 @@ fn parts(
     let mut s = first;
     let mut turns = u64::MAX;
     while turns > 0 {
-        let count = input(part);
-        if count == 0 {
+        let done = turn(part, line, given, lent, out, s);
+        s = done.state;
+        if done.last {
             return s;
         }
-        s = lines(&part[..count], line, given, lent, out, s);
         turns -= 1;
     }
     s
 }
 
-// Reads the next part of the input, and gives its length: 0 behind the last.
-fn input(part: &mut [u8]) -> usize
-    ensures { λ r. ⌜ Counts r (now (part .exit)) ⌝ }
-{
-    let got = libc::read(STDIN_FILENO, part);
-    io::count(got, part)
+// Reads a part and runs its lines. It is the last where the input has ended, the read fails or a write has failed.
+fn turn(
+    part: &mut [u8],
+    line: &mut [u8],
+    given: &mut [u8],
+    lent: &mut [u8],
+    out: &mut [u8],
+    s: State,
+) -> PartRun {
+    let read = streams::read_part(part);
+    let count = read.count;
+    if count == 0 {
+        return PartRun {
+            state: unread(s, read.failed),
+            last: true,
+        };
+    }
+    let state = lines(&part[..count], line, given, lent, out, s);
+    PartRun {
+        state,
+        last: state.at == FAILED,
+    }
+}
+
+// Where a read fails, what is there of a line is none: its rest is not known.
+fn unread(mut s: State, failed: bool) -> State {
+    if failed {
+        s.length = 0;
+    }
+    s
 }
 
 // Runs every line that ends in this part of the input, and keeps what is left.

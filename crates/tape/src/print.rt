@@ -1,51 +1,38 @@
 // Bytes, words and numbers into the output buffer, which is written out when it is full. Each function takes the place of
 // the next byte and gives the place behind what it put.
-ghost use Prim.Native.Nat.{_<_};
-use libc::STDOUT_FILENO;
+use text::flag;
+use text::number;
+
+// The place of the next byte once the buffer could not be written out. It lies behind any buffer's end, so that nothing
+// more is put, written or said.
+pub const FAILED: usize = usize::MAX;
 
 pub fn byte(out: &mut [u8], at: usize, byte: u8) -> usize {
-    if at < out.len() {
-        out[at] = byte;
-        return at + 1;
-    }
-    flush(out, at);
-    if 0 < out.len() {
-        out[0] = byte;
-        return 1;
-    }
-    0
+    text::byte(out, room(out, at, 1), byte)
 }
 
-pub fn flush(out: &[u8], at: usize) {
-    if at <= out.len() {
-        io::write_all(STDOUT_FILENO, &out[0..at]);
+pub fn word(out: &mut [u8], at: usize, text: &[u8]) -> usize {
+    if out.len() < text.len() {
+        return straight(out, at, text);
     }
+    text::word(out, room(out, at, text.len()), text)
 }
 
-pub fn word(out: &mut [u8], from: usize, text: &[u8]) -> usize {
-    let mut at = from;
-    for k in 0..text.len() {
-        at = byte(out, at, text[k]);
+// A word that is longer than the buffer is written by itself, behind what is there.
+fn straight(out: &[u8], at: usize, text: &[u8]) -> usize {
+    if flush(out, at) == FAILED {
+        return FAILED;
     }
-    at
+    emptied(streams::write(text))
 }
 
-// Most numbers have one digit.
+// Any number has 20 digits at most.
 pub fn decimal(out: &mut [u8], at: usize, n: u64) -> usize {
-    if n < 10 {
-        return byte(out, at, b'0' + n as u8);
-    }
-    let mut digits = [0u8; 20];
-    let count = io::decimal(n, &mut digits);
-    word(out, at, &digits[..count])
+    number(out, room(out, at, 20), b"", n)
 }
 
 pub fn bit(out: &mut [u8], at: usize, on: bool) -> usize {
-    if on {
-        byte(out, at, b'1')
-    } else {
-        byte(out, at, b'0')
-    }
+    flag(out, room(out, at, 1), b"", on)
 }
 
 // A dash for no bytes.
@@ -66,16 +53,27 @@ pub fn hex(out: &mut [u8], from: usize, shown: &[u8]) -> usize {
 }
 
 fn two(out: &mut [u8], at: usize, shown: u8) -> usize {
-    let behind = byte(out, at, digit(shown / 16));
-    byte(out, behind, digit(shown % 16))
+    text::hex(out, room(out, at, 2), b"", shown)
 }
 
-fn digit(value: u8) -> u8
-    requires { ⌜ value < 16 ⌝ }
-{
-    if value < 10 {
-        b'0' + value
-    } else {
-        b'a' + (value - 10)
+// Writes the buffer out where fewer than so many bytes are left, so that what is put next is not cut.
+fn room(out: &[u8], at: usize, count: usize) -> usize {
+    if at <= out.len() {
+        if out.len() - at < count {
+            return flush(out, at);
+        }
     }
+    at
+}
+
+// Writes out what is there, and the next byte goes to the buffer's start.
+pub fn flush(out: &[u8], at: usize) -> usize {
+    if out.len() < at {
+        return FAILED;
+    }
+    emptied(streams::write_first(out, at))
+}
+
+fn emptied(written: bool) -> usize {
+    if written { 0 } else { FAILED }
 }

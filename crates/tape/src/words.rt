@@ -141,7 +141,7 @@ fn grown(value: u64, digit: u8) -> u64
 
 // A digit's value, or 16 for what is none.
 fn digit_of(byte: u8) -> u8
-    ensures { λ r. ⌜ r ≡ Words.digitOf byte ⌝ }
+    ensures { λ r. ⌜ r ≡ Words.digitValue byte ⌝ }
 {
     match byte {
         b'0'..=b'9' => byte - b'0',

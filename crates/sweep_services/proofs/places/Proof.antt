@@ -1,15 +1,17 @@
--- The lines of a section end after its last place.
+-- The lines of a section end after its last place. The buffer keeps its length.
 -- Assumes nothing.
 use borrow.Author.Needs.{needs}
+use mathlib.Core.Path.{_≡_}
 use Prim.Native.Nat.{_≤_, _-_}
+use lib.ListN.{length}
 use Rattle.sweep_services.proofs.places.Statement.{statement}
 use Rattle.sweep_services.proofs.places.Tie as tie
 
 abbrev Inv-loop : tie.InvT-loop
-Inv-loop count place₀ place-end place = place ≤ place-end
+Inv-loop out₀ count place₀ place-end out place = (place ≤ place-end) × (length out ≡ length out₀)
 
 abbrev μ-loop : tie.MeasureT-loop
-μ-loop count place₀ place-end place = place-end - place
+μ-loop out₀ count place₀ place-end out place = place-end - place
 
 size-requires : tie.Need-size-requires Inv-loop μ-loop
 size-requires c κs = search needs
@@ -20,6 +22,12 @@ loop-holds c = search needs
 section-requires : tie.Need-section-requires Inv-loop μ-loop
 section-requires c κs = search needs
 
+same-length : tie.Need-same-length Inv-loop μ-loop
+same-length c = search needs
+
+returns : tie.Need-returns Inv-loop μ-loop
+returns c = search needs
+
 add-place : tie.Need-add-place Inv-loop μ-loop
 add-place c = search needs
 
@@ -29,8 +37,11 @@ loop-less c = search needs
 loop-again : tie.Need-loop-again Inv-loop μ-loop
 loop-again c = search needs
 
-returns : tie.Need-returns Inv-loop μ-loop
-returns c = search needs
+same-length-2 : tie.Need-same-length-2 Inv-loop μ-loop
+same-length-2 c = search needs
+
+returns-2 : tie.Need-returns-2 Inv-loop μ-loop
+returns-2 c = search needs
 
 pub places-spec : {M : Type 1} → statement M
 places-spec =
@@ -41,7 +52,10 @@ places-spec =
     size-requires
     loop-holds
     section-requires
+    same-length
+    returns
     add-place
     loop-less
     loop-again
-    returns)
+    same-length-2
+    returns-2)

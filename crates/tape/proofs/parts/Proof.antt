@@ -1,8 +1,8 @@
 -- The turns are counted down. Every buffer keeps its length.
 -- Assumes nothing.
 use borrow.Author.Needs.{needs}
-use lib.ListN.{length}
 use mathlib.Core.Path.{_≡_}
+use lib.ListN.{length}
 use Rattle.tape.proofs.parts.Statement.{statement}
 use Rattle.tape.proofs.parts.Tie as tie
 
@@ -17,8 +17,8 @@ abbrev μ-loop : tie.MeasureT-loop
 loop-holds : tie.Need-loop-holds Inv-loop μ-loop
 loop-holds c = search needs
 
-input-requires : tie.Need-input-requires Inv-loop μ-loop
-input-requires c κs = search needs
+turn-requires : tie.Need-turn-requires Inv-loop μ-loop
+turn-requires c κs = search needs
 
 same-length : tie.Need-same-length Inv-loop μ-loop
 same-length c = search needs
@@ -37,15 +37,6 @@ same-length-5 c = search needs
 
 returns : tie.Need-returns Inv-loop μ-loop
 returns c = search needs
-
-slice-reshare-prefix-lines : tie.Need-slice-reshare-prefix-lines Inv-loop μ-loop
-slice-reshare-prefix-lines c = search needs
-
-slice-aggregate-lines : tie.Need-slice-aggregate-lines Inv-loop μ-loop
-slice-aggregate-lines c = search needs
-
-lines-requires : tie.Need-lines-requires Inv-loop μ-loop
-lines-requires c κs = search needs
 
 sub-turns : tie.Need-sub-turns Inv-loop μ-loop
 sub-turns c = search needs
@@ -81,16 +72,13 @@ parts-spec =
     Inv-loop
     μ-loop
     loop-holds
-    input-requires
+    turn-requires
     same-length
     same-length-2
     same-length-3
     same-length-4
     same-length-5
     returns
-    slice-reshare-prefix-lines
-    slice-aggregate-lines
-    lines-requires
     sub-turns
     loop-less
     loop-again

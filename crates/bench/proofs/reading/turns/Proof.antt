@@ -7,13 +7,11 @@ use Rattle.bench.proofs.reading.turns.Statement.{statement}
 use Rattle.bench.proofs.reading.turns.Tie as tie
 
 abbrev Inv-loop : tie.InvT-loop
-Inv-loop packet₀ turns captions₀ parser₀ answers₀ last₀ left₀ t9 t10 t11 t12 t13
-    packet captions parser answers last left =
+Inv-loop packet₀ turns captions₀ parser₀ answers₀ last₀ left₀ packet captions parser answers last left =
     (length packet ≡ length packet₀) × (length captions ≡ length captions₀)
 
 abbrev μ-loop : tie.MeasureT-loop
-μ-loop packet₀ turns captions₀ parser₀ answers₀ last₀ left₀ t9 t10 t11 t12 t13
-    packet captions parser answers last left =
+μ-loop packet₀ turns captions₀ parser₀ answers₀ last₀ left₀ packet captions parser answers last left =
     left
 
 new-requires : tie.Need-new-requires Inv-loop μ-loop
@@ -43,38 +41,8 @@ loop-less c = search needs
 loop-again : tie.Need-loop-again Inv-loop μ-loop
 loop-again c = search needs
 
-slice-aggregate-number : tie.Need-slice-aggregate-number Inv-loop μ-loop
-slice-aggregate-number c = search needs
-
-number-requires : tie.Need-number-requires Inv-loop μ-loop
-number-requires c κs = search needs
-
-slice-aggregate-number-2 : tie.Need-slice-aggregate-number-2 Inv-loop μ-loop
-slice-aggregate-number-2 c = search needs
-
-number-requires-2 : tie.Need-number-requires-2 Inv-loop μ-loop
-number-requires-2 c κs = search needs
-
-slice-aggregate-number-3 : tie.Need-slice-aggregate-number-3 Inv-loop μ-loop
-slice-aggregate-number-3 c = search needs
-
-cast-number : tie.Need-cast-number Inv-loop μ-loop
-cast-number c = search needs
-
-number-requires-3 : tie.Need-number-requires-3 Inv-loop μ-loop
-number-requires-3 c κs = search needs
-
-slice-aggregate-number-4 : tie.Need-slice-aggregate-number-4 Inv-loop μ-loop
-slice-aggregate-number-4 c = search needs
-
-number-requires-4 : tie.Need-number-requires-4 Inv-loop μ-loop
-number-requires-4 c κs = search needs
-
-slice-aggregate-sum : tie.Need-slice-aggregate-sum Inv-loop μ-loop
-slice-aggregate-sum c = search needs
-
-sum-requires : tie.Need-sum-requires Inv-loop μ-loop
-sum-requires c κs = search needs
+shown-requires : tie.Need-shown-requires Inv-loop μ-loop
+shown-requires c κs = search needs
 
 same-length : tie.Need-same-length Inv-loop μ-loop
 same-length c = search needs
@@ -100,17 +68,7 @@ turns-spec =
     sub-left
     loop-less
     loop-again
-    slice-aggregate-number
-    number-requires
-    slice-aggregate-number-2
-    number-requires-2
-    slice-aggregate-number-3
-    cast-number
-    number-requires-3
-    slice-aggregate-number-4
-    number-requires-4
-    slice-aggregate-sum
-    sum-requires
+    shown-requires
     same-length
     same-length-2
     returns)

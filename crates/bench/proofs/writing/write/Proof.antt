@@ -8,11 +8,11 @@ use Rattle.bench.proofs.writing.write.Statement.{statement}
 use Rattle.bench.proofs.writing.write.Tie as tie
 
 abbrev Inv-loop : tie.InvT-loop
-Inv-loop framerate turns captions out₀ writer₀ answers₀ last₀ turn₀ t11 t12 t13 out writer answers last turn =
+Inv-loop framerate turns captions out₀ writer₀ answers₀ last₀ turn₀ out writer answers last turn =
     (turn ≤ turns) × (length out ≡ length out₀)
 
 abbrev μ-loop : tie.MeasureT-loop
-μ-loop framerate turns captions out₀ writer₀ answers₀ last₀ turn₀ t11 t12 t13 out writer answers last turn =
+μ-loop framerate turns captions out₀ writer₀ answers₀ last₀ turn₀ out writer answers last turn =
     turns - turn
 
 loop-holds : tie.Need-loop-holds Inv-loop μ-loop
@@ -42,23 +42,8 @@ loop-less c = search needs
 loop-again : tie.Need-loop-again Inv-loop μ-loop
 loop-again c = search needs
 
-slice-aggregate-number : tie.Need-slice-aggregate-number Inv-loop μ-loop
-slice-aggregate-number c = search needs
-
-number-requires : tie.Need-number-requires Inv-loop μ-loop
-number-requires c κs = search needs
-
-slice-aggregate-number-2 : tie.Need-slice-aggregate-number-2 Inv-loop μ-loop
-slice-aggregate-number-2 c = search needs
-
-number-requires-2 : tie.Need-number-requires-2 Inv-loop μ-loop
-number-requires-2 c κs = search needs
-
-slice-aggregate-sum : tie.Need-slice-aggregate-sum Inv-loop μ-loop
-slice-aggregate-sum c = search needs
-
-sum-requires : tie.Need-sum-requires Inv-loop μ-loop
-sum-requires c κs = search needs
+shown-requires : tie.Need-shown-requires Inv-loop μ-loop
+shown-requires c κs = search needs
 
 same-length : tie.Need-same-length Inv-loop μ-loop
 same-length c = search needs
@@ -81,11 +66,6 @@ write-spec =
     add-turn
     loop-less
     loop-again
-    slice-aggregate-number
-    number-requires
-    slice-aggregate-number-2
-    number-requires-2
-    slice-aggregate-sum
-    sum-requires
+    shown-requires
     same-length
     returns)
