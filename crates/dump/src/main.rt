@@ -1,41 +1,40 @@
 // Reads one packet from standard input and prints what is in it, or what is answered where it is refused. The files
 // stdin and stdout beside src/ are an example of both; cases/ has more.
-mod captions;
-mod lines;
-mod list;
-mod print;
+ghost use mathlib.Core.Path.{_≡_};
+ghost use lib.ListN.{length};
+ghost use Rattle.text_dump.specs.Dump.{dumpText, mostText};
+use text_dump::Dump;
 
-use crate::print::word;
-use libc::STDIN_FILENO;
-use reader::CDPParser;
-
-// The most bytes that are taken. No packet has so many, and the reader says so.
-const MOST: usize = 4096;
-
-// The buffer has one byte more, which shows that there are too many.
+// The buffer for the input has one byte more than is taken, which shows that there are too many.
 fn main() {
-    let mut input = [0u8; MOST + 1];
-    dump(&mut input);
+    let mut input = [0u8; Dump::MOST_INPUT + 1];
+    let mut text = [0u8; Dump::MOST_TEXT];
+    dump(&mut input, &mut text);
 }
 
-fn dump(input: &mut [u8]) {
-    let count = io::read_full(STDIN_FILENO, input);
-    if MOST < count {
-        word(b"input too long\n");
+// Of an input that cannot be read to its end nothing is printed.
+fn dump(input: &mut [u8], text: &mut [u8])
+    requires { ⌜ length (now text) ≡ mostText ⌝ }
+{
+    let read = streams::read_all(input);
+    if read.failed {
         return;
     }
-    packet(&input[..count]);
+    let count = read.count;
+    print(&input[..count], text);
 }
 
-// A new reader reads the packet. Only what is accepted is shown.
-fn packet(bytes: &[u8]) {
-    let mut captions = [0u8; CDPParser::CAPTION_ROOM];
-    let new = CDPParser::new();
-    let read = new.parse(bytes, &mut captions);
-    let answer = read.answer;
-    lines::answer(answer);
-    if answer.is_done() {
-        let parser = read.parser;
-        lines::accepted(parser, captions, answer.first);
-    }
+fn print(input: &[u8], text: &mut [u8])
+    requires { ⌜ length (now text) ≡ mostText ⌝ }
+{
+    let answer = Dump::write_into(input, text);
+    let length = answer.first;
+    hand_on(input, &text[..length]);
+}
+
+// What is written is the text of what was read, all of it and nothing else: whoever calls this has to show it.
+fn hand_on(input: &[u8], text: &[u8])
+    requires { ⌜ now text ≡ dumpText (now input) ⌝ }
+{
+    streams::write(text);
 }

@@ -2,3 +2,4 @@ pub mod Rooms
 pub mod Decimals
 pub mod LinesPut
 pub mod Sizes
+pub mod Wholes

@@ -1,3 +1,4 @@
 pub mod Places
 pub mod PacketDumped
 pub mod TextMost
+pub mod Printed
