@@ -33,6 +33,7 @@ use Rattle.write_bytes.proofs.PacketWrites as PacketWrites
 use Rattle.write_checks.specs.Checks as Checks
 use Rattle.write_checks.specs.Code as WriteChecks
 use Rattle.write_bytes.specs.PacketWriting as Writing
+use Rattle.text.specs.Whole.{textWritten}
 use Rattle.writer.specs.Writer.{setServiceInfo}
 use Rattle.theorem_packet.proofs.Proper.{
   Proper,
@@ -98,7 +99,7 @@ pub first-demand : FirstDemand
 unfolding read packetRead ReadHeader.headerRead ReadTimeCode.timeCodeRead ReadCaptions.captionsTested
     ReadServices.servicesTested ReadClosing.closingRead sectionAnswer entriesRead Section.sectionRead Entry.entryRead
     Time.timeRead Time.timeWritten Writing.packetWritten sectionWritten entryWritten valueAnswer setServiceInfo
-    WriteChecks.packetWriteTested putAnswer put
+    WriteChecks.packetWriteTested putAnswer put textWritten
 first-demand =
     record {
       packetRead = λ s p lent. with-length differ (read-proper p lent) (captionsLength p);
@@ -128,6 +129,7 @@ first-demand =
       listTested = λ l. without never (value-proper l);
       listSet = λ w services. without never (set-proper services);
       bytesPut = λ at bytes buffer. without never (room (length bytes) (length buffer - at) none);
+      textAnswered = λ text buffer. with-length never (room (length text) (length buffer) none) (length text);
       readerWrites = Refusals.refusal-writes-nothing;
       packetWrites = λ w rate captions buffer.
           PacketWrites.refusal-writes-nothing rate (w .sequence) (w .«time_code») (w .«service_info») captions buffer;
@@ -137,6 +139,7 @@ first-demand =
           sym
           (refused-shows (λ (a : Answer) (b : List ℕ). b) (fitting at bytes buffer) 0 0
           (over at bytes buffer) buffer h);
+      textWrites = λ text buffer. left (verdict (roomCheck (length text) (length buffer) ∷ [])) text buffer;
       readerClears = Refusals.refusal-clears;
       readerStays = Refusals.eleven-changes-nothing;
     }

@@ -23,6 +23,7 @@ use Rattle.read_packet.specs.Code as ReadPacket
 use Rattle.reader.specs.Code as ReaderCode
 use Rattle.reader.specs.Reader.{bufferAfter, cleared, read}
 use Rattle.write_checks.specs.Code as WriteChecks
+use Rattle.text.specs.Whole.{textWritten}
 use Rattle.writer.specs.Writer.{heldWritten, setServiceInfo}
 use Rattle.basis.specs.declared.answer.Answer.{Answer}
 use Rattle.service_entry.specs.declared.entry.ServiceEntry.{ServiceEntry}
@@ -95,6 +96,8 @@ pub record FirstDemand : Type 0 where
   pub listTested : (l : ServiceInfo) → inTable false never (ServiceListCode.valueAnswer l) ≡ true
   pub listSet : (w : CDPWriter) (services : MaybeServiceInfo) → inTable false never (setServiceInfo w services .answer) ≡ true
   pub bytesPut : (at : ℕ) (bytes buffer : List ℕ) → inTable false never (putAnswer at bytes buffer) ≡ true
+  -- whatever text, a dump's too
+  pub textAnswered : (text buffer : List ℕ) → inTable true never (textWritten text buffer .answer) ≡ true
   -- a refusal writes no byte of a lent buffer
   pub readerWrites : (s : CDPParser) (p buffer : List ℕ) → refuses (read s p (length buffer) .answer) → bufferAfter p buffer ≡ buffer
   pub packetWrites : (w : CDPWriter) (rate : Framerate) (captions buffer : List ℕ)
@@ -104,6 +107,7 @@ pub record FirstDemand : Type 0 where
   pub entryWrites : (e : ServiceEntry) (buffer : List ℕ)
       → refuses (EntryWriting.entryWritten e buffer .answer) → EntryWriting.entryWritten e buffer .buffer ≡ buffer
   pub putWrites : (at : ℕ) (bytes buffer : List ℕ) → refuses (putAnswer at bytes buffer) → put at bytes buffer ≡ buffer
+  pub textWrites : (text buffer : List ℕ) → refuses (textWritten text buffer .answer) → textWritten text buffer .buffer ≡ buffer
   -- a reader's refusal clears rate, time code and sequence and keeps the list; 11 changes nothing
   pub readerClears : (s : CDPParser) (p buffer : List ℕ) → refuses (read s p (length buffer) .answer)
       → eqb (read s p (length buffer) .answer .number) 11 ≡ false → read s p (length buffer) .parser ≡ cleared s
