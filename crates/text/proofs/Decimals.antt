@@ -73,7 +73,8 @@ one-more false d e k front h = simp length-append (omega arith)
 -- no more digits than there are places
 places-most : (places n : ℕ) → length (decimalIn places n) ≤ places
 places-most zero n = omega arith
-places-most (suc places) n = one-more (ltb n 10) (digitOf n) (digitOf (n % 10)) places (decimalIn places (n / 10)) (places-most places (n / 10))
+places-most (suc places) n =
+    one-more (ltb n 10) (digitOf n) (digitOf (n % 10)) places (decimalIn places (n / 10)) (places-most places (n / 10))
 
 -- a number below ten to the power of k has k digits at most
 within : (places k n : ℕ) → n < 10 ^ suc k → length (decimalIn places n) ≤ suc k
@@ -81,7 +82,8 @@ within zero k n h = omega arith
 within (suc places) zero n h = rw (lt-ltb n 10 h) (omega arith)
 within (suc places) (suc k) n h =
     let more : 10 ^ suc (suc k) ≡ 10 * 10 ^ suc k = pow-succ' 10 (suc k) in
-    one-more (ltb n 10) (digitOf n) (digitOf (n % 10)) (suc k) (decimalIn places (n / 10)) (within places k (n / 10) (omega arith))
+    one-more (ltb n 10) (digitOf n) (digitOf (n % 10)) (suc k) (decimalIn places (n / 10))
+    (within places k (n / 10) (omega arith))
 
 pub decimal-most : (n : ℕ) → length (decimalText n) ≤ 20
 unfolding decimalText

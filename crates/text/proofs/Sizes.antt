@@ -1,8 +1,8 @@
 -- How long pieces of text are, and lines that are all short.
 -- Assumes nothing.
 use mathlib.Core.Bool.{Bool, true, false}
-use mathlib.Core.List.{List, [], _∷_, _++_}
-use mathlib.Core.Path.{_≡_, _∙_, refl}
+use mathlib.Core.List.{List, [], _∷_}
+use mathlib.Core.Path.{_≡_, refl}
 use Prim.Native.Nat.{ℕ, zero, suc, _+_, _*_, _≤_}
 use native.Mathlib.Nat.{mul-suc}
 use native.Mathlib.Numerals.{add-one}
@@ -34,5 +34,10 @@ each-most line most h (suc n) =
     let front : length (linesText (made line n)) ≤ suc most * n = each-most line most h n in
     let last : length (line n) ≤ most = h n in
     let all : suc most * suc n ≡ suc most * n + suc most = mul-suc (suc most) n in
-    rw (← add-one n, ← each-more line n, length-append (linesText (made line n)) (lineText (line n)), length-append (line n) (10 ∷ []))
+    rw (
+      ← add-one n,
+      ← each-more line n,
+      length-append (linesText (made line n)) (lineText (line n)),
+      length-append (line n) (10 ∷ []),
+    )
     (omega (arith, all, add-one n))

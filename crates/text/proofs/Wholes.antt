@@ -1,14 +1,13 @@
 -- A text that was put whole: its length in the answer, and all of it at the buffer's start.
 -- Assumes nothing.
 use mathlib.Core.List.{List, []}
-use mathlib.Core.Path.{_≡_, _∙_, sym, refl, ap}
+use mathlib.Core.Path.{_≡_, sym, refl, ap}
 use Prim.Native.Nat.{ℕ, _≤_}
 use lib.ListN.{length, take}
 use Rattle.basis.proofs.Puts.{take-over}
 use Rattle.basis.proofs.Writes.{all-fits}
 use Rattle.basis.specs.Answer.{done}
 use Rattle.basis.specs.Bytes.{over}
-use Rattle.basis.specs.Writing.{Written}
 use Rattle.text.specs.Whole.{textWritten}
 use Rattle.basis.specs.declared.answer.Answer.{Answer}
 

@@ -11,9 +11,8 @@ use Rattle.basis.specs.Answer.{done}
 use Rattle.basis.specs.Bytes.{byte}
 use Rattle.basis.specs.Made.{made}
 use Rattle.basis.specs.Mask.{allClear, allSet, under, x01, x3F, x40, x80, xF0}
-use Rattle.read_captions.specs.Captions.{captionsSize}
-use Rattle.read_header.specs.Header.{flagsIn, rateOf, sequenceIn}
-use Rattle.read_packet.specs.Packet.{captionsAt, captionsLength, servicesAt, timeCodeAt}
+use Rattle.read_header.specs.Header.{flagsIn}
+use Rattle.read_packet.specs.Packet.{captionsLength, servicesAt, timeCodeAt}
 use Rattle.read_services.specs.Services.{servicesOf, servicesPart}
 use Rattle.read_time_code.specs.TimeCode.{timeCodeOf}
 use Rattle.reader.proofs.ReaderReads.{captions-long}
@@ -27,35 +26,16 @@ use Rattle.text.proofs.Decimals.{decimal-most, decimal-within}
 use Rattle.text.proofs.LinesPut.{lines-append}
 use Rattle.text.proofs.Sizes.{each-most, flag-size, hex-size, two-size}
 use Rattle.text.specs.Digits.{decimalText}
-use Rattle.text.specs.Lines.{lineText, linesText}
+use Rattle.text.specs.Lines.{linesText}
 use Rattle.text_dump.specs.Dump.{dumpText, mostInput, mostText, packetLines, readLines}
-use Rattle.text_dump.specs.Lines.{
-  answerLine,
-  bothValues,
-  captionLines,
-  clockLine,
-  entryLine,
-  fourText,
-  listLine,
-  placeLine,
-  rateLine,
-  sequenceLine,
-  serviceLine,
-  serviceLines,
-  shownLines,
-  timeLine,
-  tripletLine,
-}
-use Rattle.text_dump.proofs.PacketDumped.{answer-is, few-listed, few-shown, packet-kept, parser-is}
+use Rattle.text_dump.specs.Lines.{answerLine, bothValues, captionLines, entryLine, placeLine, rateLine, sequenceLine, serviceLine, serviceLines, shownLines, timeLine, tripletLine}
+use Rattle.text_dump.proofs.PacketDumped.{answer-is, few-listed, packet-kept, parser-is}
 use Rattle.values.specs.Layout.{captionRoom, sectionEntrySize}
 use Rattle.values.specs.Rate.{fromId, noRate, present, row}
 use Rattle.basis.specs.declared.answer.Answer.{Answer}
-use Rattle.reader.specs.declared.parser.CDPParser.{CDPParser}
 use Rattle.service_entry.specs.declared.entry.ServiceEntry.{ServiceEntry}
-use Rattle.service_entry.specs.declared.service.DigitalServiceEntry.{DigitalServiceEntry}
 use Rattle.service_entry.specs.declared.service.FieldOrService.{FieldOrService}
 use Rattle.service_entry.specs.declared.service.FieldOrService.the-variants.{Field, Service}
-use Rattle.service_list.specs.declared.list.MaybeServiceInfo.{MaybeServiceInfo}
 use Rattle.service_list.specs.declared.list.ServiceInfo.{ServiceInfo}
 use Rattle.values.specs.declared.framerate.Framerate.{Framerate}
 use Rattle.values.specs.declared.framerate.MaybeFramerate.{MaybeFramerate}
@@ -152,7 +132,11 @@ service-most (Service d) language h =
 
 -- every entry that a section's bytes hold, and the filler behind them, has such a number
 service-small : (kind flags : ℕ) (digital : Bool)
-    → numberOf (cond digital (Service (digitalEntry (under x3F kind) (allSet x80 flags) (allSet x40 flags))) (Field (allClear x01 kind))) ≤ 63
+    → numberOf
+    (cond digital
+    (Service (digitalEntry (under x3F kind) (allSet x80 flags) (allSet x40 flags)))
+    (Field (allClear x01 kind)))
+    ≤ 63
 service-small kind flags true = omega arith
 service-small kind flags false = omega arith
 

@@ -1,6 +1,6 @@
 -- The promises of the dump's text hold: the cases are computed, the others follow from the definition.
 -- Assumes nothing.
-use mathlib.Core.Bool.{false, true}
+use mathlib.Core.Bool.{false}
 use mathlib.Core.List.{List, [], _++_, append-nil}
 use mathlib.Core.Path.{_≡_, _∙_, refl, ap}
 use Prim.Native.Nat.{ℕ, _≤_, _<_}

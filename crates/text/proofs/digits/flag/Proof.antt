@@ -26,7 +26,8 @@ returns : tie.Need-returns
 unfolding flagText
 returns c =
     let put = c .before .before in
-    let on : put .before .before .before .before .before .before .args .on ≡ true = put .before .before .before .if1 .taken in
+    let tested = put .before .before .before in
+    let on : tested .before .before .before .args .on ≡ true = tested .if1 .taken in
     rw on (put .both .ensures)
 
 same-length-2 : tie.Need-same-length-2
@@ -36,8 +37,9 @@ returns-2 : tie.Need-returns-2
 unfolding flagText
 returns-2 c =
     let put = c .before .before in
-    let on : put .before .before .before .before .before .before .args .on ≡ false = put .before .before .before .if1 .left in
-    rw on (put .both2 .ensures)
+    let tested = put .before .before .before in
+    let off : tested .before .before .before .args .on ≡ false = tested .if1 .left in
+    rw off (put .both2 .ensures)
 
 pub flag-spec : {M : Type 1} → statement M
 flag-spec =

@@ -24,7 +24,8 @@ returns : tie.Need-returns
 returns c =
     let put = c .before .before in
     let made = put .before .before .before in
-    let start = made .before .before .before .before in
+    let lent = made .before .before .before in
+    let start = lent .before in
     let spelled = made .decimal .ensures in
     rw (decimal-is (start .args .n) (made .decimal .result) _ (start .fits .n .fits) (spelled .1 .0) (spelled .1 .1)) at
     (put .both .ensures)

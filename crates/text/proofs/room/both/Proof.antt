@@ -17,7 +17,8 @@ same-length c = search needs
 returns : tie.Need-returns
 returns c =
     let second = c .before .before in
-    let first = second .before .before .before .before in
+    let lent = second .before .before .before in
+    let first = lent .before in
     behind (first .word .ensures) (second .word2 .ensures)
 
 pub both-spec : {M : Type 1} → statement M

@@ -41,7 +41,8 @@ returns c =
     let minutes = minutes-lent .before .before in
     let hours-lent = minutes .before .before .before in
     let hours = hours-lent .before .before in
-    behind (behind (behind (hours .two-digits .ensures) (minutes .two-digits2 .ensures)) (seconds .two-digits3 .ensures)) (frames .two-digits4 .ensures)
+    behind (behind (behind (hours .two-digits .ensures) (minutes .two-digits2 .ensures)) (seconds .two-digits3 .ensures))
+    (frames .two-digits4 .ensures)
 
 pub four-spec : {M : Type 1} → statement M
 four-spec =

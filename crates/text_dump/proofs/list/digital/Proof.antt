@@ -49,7 +49,10 @@ returns c =
     let spoken = spoken-lent .before .before in
     let named-lent = spoken .before .before .before in
     let named = named-lent .before in
-    behind (behind (behind (behind (named .number .ensures) (spoken .language-bytes .ensures)) (easy .flag .ensures)) (wide .flag2 .ensures)) (ended .word .ensures)
+    behind
+    (behind (behind (behind (named .number .ensures) (spoken .language-bytes .ensures)) (easy .flag .ensures))
+    (wide .flag2 .ensures))
+    (ended .word .ensures)
 
 pub digital-spec : {M : Type 1} → statement M
 digital-spec =

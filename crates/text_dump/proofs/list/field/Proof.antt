@@ -33,7 +33,8 @@ returns c =
     let spoken = spoken-lent .before .before in
     let named-lent = spoken .before .before .before in
     let named = named-lent .before in
-    behind (behind (rw (named .before .field-number .ensures) at (named .number .ensures)) (spoken .language-bytes .ensures)) (ended .word .ensures)
+    let which = rw (named .before .field-number .ensures) at (named .number .ensures) in
+    behind (behind which (spoken .language-bytes .ensures)) (ended .word .ensures)
 
 pub field-spec : {M : Type 1} → statement M
 field-spec =

@@ -49,7 +49,10 @@ returns c =
     let start = start-lent .before .before in
     let count-lent = start .before .before .before in
     let count = count-lent .before .before in
-    behind (behind (behind (behind (count .number .ensures) (start .flag .ensures)) (change .flag2 .ensures)) (complete .flag3 .ensures)) (ended .word .ensures)
+    behind
+    (behind (behind (behind (count .number .ensures) (start .flag .ensures)) (change .flag2 .ensures))
+    (complete .flag3 .ensures))
+    (ended .word .ensures)
 
 pub head-spec : {M : Type 1} → statement M
 head-spec =
