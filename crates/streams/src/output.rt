@@ -11,10 +11,10 @@ pub fn write(text: &[u8]) -> bool {
     false
 }
 
-// Writes the first bytes of a buffer. Where it has not so many, nothing is written.
+// Writes the first bytes of a buffer, all of it where it has no more.
 pub fn write_first(buffer: &[u8], end: usize) -> bool {
     if buffer.len() < end {
-        return true;
+        return write(buffer);
     }
     write(&buffer[0..end])
 }

@@ -9,5 +9,6 @@ pub use digits::hex;
 pub use digits::number;
 pub use digits::two_digits;
 pub use room::byte;
+pub use room::line;
 pub use room::word;
 pub use whole::put_whole;

@@ -1,5 +1,6 @@
 // Bytes put into a lent buffer, as many of them as it has room for.
 ghost use mathlib.Core.List.{[], _∷_, _++_};
+ghost use Rattle.text.specs.Lines.{lineText};
 ghost use Rattle.text.specs.Room.{PutInRoom};
 
 // Puts one byte, and gives the place behind it. Behind the buffer's end nothing is put.
@@ -22,6 +23,13 @@ pub fn word(out: &mut [u8], from: usize, text: &[u8]) -> usize
         at = byte(out, at, text[k]);
     }
     at
+}
+
+// Puts bytes and the end of a line; with no bytes it ends the line that is there.
+pub fn line(out: &mut [u8], at: usize, text: &[u8]) -> usize
+    ensures { λ r. ⌜ PutInRoom at (lineText (now (text .entry))) (now (out .entry)) r (now (out .exit)) ⌝ }
+{
+    both(out, at, text, b"\n")
 }
 
 // Puts one run of bytes behind another.

@@ -8,8 +8,8 @@ ghost use Rattle.text.specs.Lines.{lineText, linesText};
 ghost use Rattle.text.specs.Room.{PutInRoom};
 ghost use Rattle.text_dump.specs.Lines as Lines;
 use text::hex;
+use text::line;
 use text::number;
-use text::word;
 use values::Packet;
 
 // Two bytes stand in front of the captions, so that a third of the length is their count. Without a section there are
@@ -18,11 +18,11 @@ pub(crate) fn captions(out: &mut [u8], at: usize, handed_out: &[u8]) -> usize
     ensures { λ r. ⌜ PutInRoom at (linesText (Lines.captionLines (now («handed_out» .entry)))) (now (out .entry)) r (now (out .exit)) ⌝ }
 {
     if handed_out.len() == 0 {
-        return word(out, at, b"captions none\n");
+        return line(out, at, b"captions none");
     }
     let count = handed_out.len() / Packet::TRIPLET_LEN;
     let counted = number(out, at, b"captions ", count as u64);
-    let ended = word(out, counted, b"\n");
+    let ended = line(out, counted, b"");
     triplets(out, ended, handed_out, count)
 }
 
@@ -45,7 +45,7 @@ fn triplet(out: &mut [u8], at: usize, handed_out: &[u8], k: usize) -> usize
     let first = hex(out, at, b"", byte_at(handed_out, place));
     let second = hex(out, first, b" ", byte_at(handed_out, place + 1));
     let third = hex(out, second, b" ", byte_at(handed_out, place + 2));
-    word(out, third, b"\n")
+    line(out, third, b"")
 }
 
 // 0 past the end.

@@ -8,8 +8,8 @@ ghost use Rattle.text_dump.specs.Dump.{dumpText, mostInput, mostText, pa
 use crate::lines;
 use basis::Answer;
 use reader::CDPParser;
+use text::line;
 use text::put_whole;
-use text::word;
 
 // Its constants and its one call.
 pub struct Dump {}
@@ -44,7 +44,7 @@ fn text_of(input: &[u8], out: &mut [u8]) -> usize
     ensures { λ r. ⌜ PutInRoom 0 (dumpText (now (input .entry))) (now (out .entry)) r (now (out .exit)) ⌝ }
 {
     if Dump::MOST_INPUT < input.len() {
-        return word(out, 0, b"input too long\n");
+        return line(out, 0, b"input too long");
     }
     packet(input, out)
 }

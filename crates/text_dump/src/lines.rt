@@ -9,9 +9,9 @@ use crate::list::services;
 use basis::Answer;
 use reader::CDPParser;
 use text::flag;
+use text::line;
 use text::number;
 use text::two_digits;
-use text::word;
 use values::Framerate;
 use values_time::MaybeTimeCode;
 use values_time::TimeCode;
@@ -24,9 +24,9 @@ pub(crate) fn answer(out: &mut [u8], at: usize, shown: Answer) -> usize
     if shown.number == 1 {
         let first = number(out, named, b" expected ", shown.first as u64);
         let second = number(out, first, b" actual ", shown.second as u64);
-        return word(out, second, b"\n");
+        return line(out, second, b"");
     }
-    word(out, named, b"\n")
+    line(out, named, b"")
 }
 
 // What the reader shows of an accepted packet, and the captions that it handed out.
@@ -50,21 +50,21 @@ fn rate(out: &mut [u8], at: usize, shown: Framerate) -> usize
     let id = number(out, at, b"rate ", shown.id as u64);
     let numer = number(out, id, b" ", shown.numer as u64);
     let denom = number(out, numer, b"/", shown.denom as u64);
-    word(out, denom, b"\n")
+    line(out, denom, b"")
 }
 
 fn sequence(out: &mut [u8], at: usize, shown: u16) -> usize
     ensures { λ r. ⌜ PutInRoom at (lineText (Lines.sequenceLine shown)) (now (out .entry)) r (now (out .exit)) ⌝ }
 {
     let count = number(out, at, b"sequence ", shown as u64);
-    word(out, count, b"\n")
+    line(out, count, b"")
 }
 
 fn time(out: &mut [u8], at: usize, shown: MaybeTimeCode) -> usize
     ensures { λ r. ⌜ PutInRoom at (lineText (Lines.timeLine shown)) (now (out .entry)) r (now (out .exit)) ⌝ }
 {
     if !shown.present {
-        return word(out, at, b"time none\n");
+        return line(out, at, b"time none");
     }
     let time_code = shown.time_code;
     clock(out, at, time_code)
@@ -76,7 +76,7 @@ fn clock(out: &mut [u8], at: usize, shown: TimeCode) -> usize
     let told = four(out, at, shown);
     let field = flag(out, told, b" field ", shown.field);
     let drop = flag(out, field, b" drop ", shown.drop_frame);
-    word(out, drop, b"\n")
+    line(out, drop, b"")
 }
 
 fn four(out: &mut [u8], at: usize, shown: TimeCode) -> usize

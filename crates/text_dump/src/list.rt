@@ -14,15 +14,15 @@ use service_list::ServiceEntry;
 use service_list::ServiceInfo;
 use text::flag;
 use text::hex;
+use text::line;
 use text::number;
-use text::word;
 
 pub(crate) fn services(out: &mut [u8], at: usize, shown: MaybeServiceInfo) -> usize
     requires { ⌜ shown .«service_info» .count ≤ places ⌝ }
     ensures { λ r. ⌜ PutInRoom at (linesText (Lines.serviceLines shown)) (now (out .entry)) r (now (out .exit)) ⌝ }
 {
     if !shown.present {
-        return word(out, at, b"services none\n");
+        return line(out, at, b"services none");
     }
     let list = shown.service_info;
     let services = list.services;
@@ -37,7 +37,7 @@ fn head(out: &mut [u8], at: usize, shown: ServiceInfo) -> usize
     let start = flag(out, count, b" start ", shown.start);
     let change = flag(out, start, b" change ", shown.change);
     let complete = flag(out, change, b" complete ", shown.complete);
-    word(out, complete, b"\n")
+    line(out, complete, b"")
 }
 
 fn entries(out: &mut [u8], from: usize, services: [ServiceEntry; 15], count: usize) -> usize
@@ -68,7 +68,7 @@ fn field(out: &mut [u8], at: usize, first: bool, language: [u8; 3]) -> usize
 {
     let named = number(out, at, b"field ", field_number(first));
     let spoken = language_bytes(out, named, language);
-    word(out, spoken, b"\n")
+    line(out, spoken, b"")
 }
 
 fn field_number(first: bool) -> u64
@@ -84,7 +84,7 @@ fn digital(out: &mut [u8], at: usize, named: DigitalServiceEntry, language: [u8;
     let spoken = language_bytes(out, numbered, language);
     let easy = flag(out, spoken, b" easy ", named.easy_reader);
     let wide = flag(out, easy, b" wide ", named.wide_aspect_ratio);
-    word(out, wide, b"\n")
+    line(out, wide, b"")
 }
 
 fn language_bytes(out: &mut [u8], at: usize, bytes: [u8; 3]) -> usize

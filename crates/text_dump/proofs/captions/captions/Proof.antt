@@ -7,11 +7,11 @@ use borrow.Author.Needs.{needs}
 use Rattle.text_dump.proofs.captions.captions.Statement.{statement}
 use Rattle.text_dump.proofs.captions.captions.Tie as tie
 
-slice-aggregate-word : tie.Need-slice-aggregate-word
-slice-aggregate-word c = search needs
+slice-aggregate-line : tie.Need-slice-aggregate-line
+slice-aggregate-line c = search needs
 
-word-requires : tie.Need-word-requires
-word-requires c κs = search needs
+line-requires : tie.Need-line-requires
+line-requires c κs = search needs
 
 same-length : tie.Need-same-length
 same-length c = search needs
@@ -21,7 +21,7 @@ unfolding captionLines
 returns c =
     let ended = c .before .before in
     let tested = ended .before .before .before in
-    simp (eq-eqb _ _ (tested .if1 .taken)) (ended .word .ensures)
+    simp (eq-eqb _ _ (tested .if1 .taken)) (ended .line .ensures)
 
 slice-aggregate-number : tie.Need-slice-aggregate-number
 slice-aggregate-number c = search needs
@@ -29,11 +29,11 @@ slice-aggregate-number c = search needs
 number-requires : tie.Need-number-requires
 number-requires c κs = search needs
 
-slice-aggregate-word-2 : tie.Need-slice-aggregate-word-2
-slice-aggregate-word-2 c = search needs
+slice-aggregate-line-2 : tie.Need-slice-aggregate-line-2
+slice-aggregate-line-2 c = search needs
 
-word-requires-2 : tie.Need-word-requires-2
-word-requires-2 c κs = search needs
+line-requires-2 : tie.Need-line-requires-2
+line-requires-2 c κs = search needs
 
 triplets-requires : tie.Need-triplets-requires
 triplets-requires c κs = search needs
@@ -50,20 +50,20 @@ returns-2 c =
     let counted-lent = ended .before .before .before in
     let counted = counted-lent .before .before in
     let tested = counted .before .before .before in
-    simp (ne-eqb _ _ (tested .if1 .left)) (behind (behind (counted .number .ensures) (ended .word2 .ensures)) (put .triplets .ensures))
+    simp (ne-eqb _ _ (tested .if1 .left)) (behind (behind (counted .number .ensures) (ended .line2 .ensures)) (put .triplets .ensures))
 
 pub captions-spec : {M : Type 1} → statement M
 captions-spec =
     tie.close
     (tie.spec
-    slice-aggregate-word
-    word-requires
+    slice-aggregate-line
+    line-requires
     same-length
     returns
     slice-aggregate-number
     number-requires
-    slice-aggregate-word-2
-    word-requires-2
+    slice-aggregate-line-2
+    line-requires-2
     triplets-requires
     same-length-2
     returns-2)

@@ -44,11 +44,11 @@ byte-at-requires-3 c κs = search needs
 hex-requires-3 : tie.Need-hex-requires-3
 hex-requires-3 c κs = search needs
 
-slice-aggregate-word : tie.Need-slice-aggregate-word
-slice-aggregate-word c = search needs
+slice-aggregate-line : tie.Need-slice-aggregate-line
+slice-aggregate-line c = search needs
 
-word-requires : tie.Need-word-requires
-word-requires c κs = search needs
+line-requires : tie.Need-line-requires
+line-requires c κs = search needs
 
 same-length : tie.Need-same-length
 same-length c = search needs
@@ -65,7 +65,7 @@ returns c =
     let one = rw (first .before .byte-at .ensures) at (first .hex .ensures) in
     let two = rw (second .before .byte-at2 .ensures) at (second .hex2 .ensures) in
     let three = rw (third .before .byte-at3 .ensures) at (third .hex3 .ensures) in
-    behind (behind (behind one two) three) (ended .word .ensures)
+    behind (behind (behind one two) three) (ended .line .ensures)
 
 pub triplet-spec : {M : Type 1} → statement M
 triplet-spec =
@@ -84,7 +84,7 @@ triplet-spec =
     add-byte-at-2
     byte-at-requires-3
     hex-requires-3
-    slice-aggregate-word
-    word-requires
+    slice-aggregate-line
+    line-requires
     same-length
     returns)

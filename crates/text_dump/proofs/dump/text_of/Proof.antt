@@ -6,11 +6,11 @@ use borrow.Author.Needs.{needs}
 use Rattle.text_dump.proofs.dump.text_of.Statement.{statement}
 use Rattle.text_dump.proofs.dump.text_of.Tie as tie
 
-slice-aggregate-word : tie.Need-slice-aggregate-word
-slice-aggregate-word c = search needs
+slice-aggregate-line : tie.Need-slice-aggregate-line
+slice-aggregate-line c = search needs
 
-word-requires : tie.Need-word-requires
-word-requires c κs = search needs
+line-requires : tie.Need-line-requires
+line-requires c κs = search needs
 
 same-length : tie.Need-same-length
 same-length c = search needs
@@ -20,7 +20,7 @@ unfolding dumpText
 returns c =
     let ended = c .before .before in
     let tested = ended .before .before .before in
-    simp (lt-leb _ _ (tested .if1 .taken)) (ended .word .ensures)
+    simp (lt-leb _ _ (tested .if1 .taken)) (ended .line .ensures)
 
 packet-requires : tie.Need-packet-requires
 packet-requires c κs = search needs
@@ -38,8 +38,8 @@ pub text-of-spec : {M : Type 1} → statement M
 text-of-spec =
     tie.close
     (tie.spec
-    slice-aggregate-word
-    word-requires
+    slice-aggregate-line
+    line-requires
     same-length
     returns
     packet-requires

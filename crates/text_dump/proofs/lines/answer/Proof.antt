@@ -28,11 +28,11 @@ slice-aggregate-number-3 c = search needs
 number-requires-3 : tie.Need-number-requires-3
 number-requires-3 c κs = search needs
 
-slice-aggregate-word : tie.Need-slice-aggregate-word
-slice-aggregate-word c = search needs
+slice-aggregate-line : tie.Need-slice-aggregate-line
+slice-aggregate-line c = search needs
 
-word-requires : tie.Need-word-requires
-word-requires c κs = search needs
+line-requires : tie.Need-line-requires
+line-requires c κs = search needs
 
 same-length : tie.Need-same-length
 same-length c = search needs
@@ -49,13 +49,13 @@ returns c =
     let named-lent = tested .before .before .before in
     let named = named-lent .before in
     simp (eq-eqb _ _ (tested .if1 .taken))
-    (behind (behind (named .number .ensures) (behind (first .number2 .ensures) (second .number3 .ensures))) (ended .word .ensures))
+    (behind (behind (named .number .ensures) (behind (first .number2 .ensures) (second .number3 .ensures))) (ended .line .ensures))
 
-slice-aggregate-word-2 : tie.Need-slice-aggregate-word-2
-slice-aggregate-word-2 c = search needs
+slice-aggregate-line-2 : tie.Need-slice-aggregate-line-2
+slice-aggregate-line-2 c = search needs
 
-word-requires-2 : tie.Need-word-requires-2
-word-requires-2 c κs = search needs
+line-requires-2 : tie.Need-line-requires-2
+line-requires-2 c κs = search needs
 
 same-length-2 : tie.Need-same-length-2
 same-length-2 c = search needs
@@ -67,7 +67,7 @@ returns-2 c =
     let tested = ended .before .before .before in
     let named-lent = tested .before .before .before in
     let named = named-lent .before in
-    simp (ne-eqb _ _ (tested .if1 .left)) (behind (behind (named .number .ensures) (nothing _ _)) (ended .word2 .ensures))
+    simp (ne-eqb _ _ (tested .if1 .left)) (behind (behind (named .number .ensures) (nothing _ _)) (ended .line2 .ensures))
 
 pub answer-spec : {M : Type 1} → statement M
 answer-spec =
@@ -80,11 +80,11 @@ answer-spec =
     number-requires-2
     slice-aggregate-number-3
     number-requires-3
-    slice-aggregate-word
-    word-requires
+    slice-aggregate-line
+    line-requires
     same-length
     returns
-    slice-aggregate-word-2
-    word-requires-2
+    slice-aggregate-line-2
+    line-requires-2
     same-length-2
     returns-2)

@@ -20,11 +20,11 @@ slice-aggregate-flag-2 c = search needs
 flag-requires-2 : tie.Need-flag-requires-2
 flag-requires-2 c κs = search needs
 
-slice-aggregate-word : tie.Need-slice-aggregate-word
-slice-aggregate-word c = search needs
+slice-aggregate-line : tie.Need-slice-aggregate-line
+slice-aggregate-line c = search needs
 
-word-requires : tie.Need-word-requires
-word-requires c κs = search needs
+line-requires : tie.Need-line-requires
+line-requires c κs = search needs
 
 same-length : tie.Need-same-length
 same-length c = search needs
@@ -38,7 +38,7 @@ returns c =
     let field = field-lent .before .before in
     let told-lent = field .before .before .before in
     let told = told-lent .before .before in
-    behind (behind (behind (told .four .ensures) (field .flag .ensures)) (drop .flag2 .ensures)) (ended .word .ensures)
+    behind (behind (behind (told .four .ensures) (field .flag .ensures)) (drop .flag2 .ensures)) (ended .line .ensures)
 
 pub clock-spec : {M : Type 1} → statement M
 clock-spec =
@@ -49,7 +49,7 @@ clock-spec =
     flag-requires
     slice-aggregate-flag-2
     flag-requires-2
-    slice-aggregate-word
-    word-requires
+    slice-aggregate-line
+    line-requires
     same-length
     returns)

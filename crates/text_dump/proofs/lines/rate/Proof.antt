@@ -33,11 +33,11 @@ cast-number-3 c = search needs
 number-requires-3 : tie.Need-number-requires-3
 number-requires-3 c κs = search needs
 
-slice-aggregate-word : tie.Need-slice-aggregate-word
-slice-aggregate-word c = search needs
+slice-aggregate-line : tie.Need-slice-aggregate-line
+slice-aggregate-line c = search needs
 
-word-requires : tie.Need-word-requires
-word-requires c κs = search needs
+line-requires : tie.Need-line-requires
+line-requires c κs = search needs
 
 same-length : tie.Need-same-length
 same-length c = search needs
@@ -52,7 +52,7 @@ returns c =
     let numer = numer-lent .before .before .before in
     let id-lent = numer .before .before .before in
     let id = id-lent .before .before .before in
-    behind (behind (behind (id .number .ensures) (numer .number2 .ensures)) (denom .number3 .ensures)) (ended .word .ensures)
+    behind (behind (behind (id .number .ensures) (numer .number2 .ensures)) (denom .number3 .ensures)) (ended .line .ensures)
 
 pub rate-spec : {M : Type 1} → statement M
 rate-spec =
@@ -67,7 +67,7 @@ rate-spec =
     slice-aggregate-number-3
     cast-number-3
     number-requires-3
-    slice-aggregate-word
-    word-requires
+    slice-aggregate-line
+    line-requires
     same-length
     returns)

@@ -12,11 +12,11 @@ slice-aggregate-number c = search needs
 number-requires : tie.Need-number-requires
 number-requires c κs = search needs
 
-slice-aggregate-word : tie.Need-slice-aggregate-word
-slice-aggregate-word c = search needs
+slice-aggregate-line : tie.Need-slice-aggregate-line
+slice-aggregate-line c = search needs
 
-word-requires : tie.Need-word-requires
-word-requires c κs = search needs
+line-requires : tie.Need-line-requires
+line-requires c κs = search needs
 
 same-length : tie.Need-same-length
 same-length c = search needs
@@ -27,7 +27,7 @@ returns c =
     let ended = c .before .before in
     let count-lent = ended .before .before .before in
     let count = count-lent .before .before in
-    behind (count .number .ensures) (ended .word .ensures)
+    behind (count .number .ensures) (ended .line .ensures)
 
 pub sequence-spec : {M : Type 1} → statement M
 sequence-spec =
@@ -35,7 +35,7 @@ sequence-spec =
     (tie.spec
     slice-aggregate-number
     number-requires
-    slice-aggregate-word
-    word-requires
+    slice-aggregate-line
+    line-requires
     same-length
     returns)

@@ -8,11 +8,11 @@ use borrow.Author.Needs.{needs}
 use Rattle.text_dump.proofs.lines.time.Statement.{statement}
 use Rattle.text_dump.proofs.lines.time.Tie as tie
 
-slice-aggregate-word : tie.Need-slice-aggregate-word
-slice-aggregate-word c = search needs
+slice-aggregate-line : tie.Need-slice-aggregate-line
+slice-aggregate-line c = search needs
 
-word-requires : tie.Need-word-requires
-word-requires c κs = search needs
+line-requires : tie.Need-line-requires
+line-requires c κs = search needs
 
 same-length : tie.Need-same-length
 same-length c = search needs
@@ -23,7 +23,7 @@ returns c =
     let ended = c .before .before in
     let tested = ended .before .before .before in
     let none : tested .before .before .before .args .shown .present ≡ false = not-true _ (tested .if1 .taken) in
-    rw none (ended .word .ensures)
+    rw none (ended .line .ensures)
 
 clock-requires : tie.Need-clock-requires
 clock-requires c κs = search needs
@@ -43,8 +43,8 @@ pub time-spec : {M : Type 1} → statement M
 time-spec =
     tie.close
     (tie.spec
-    slice-aggregate-word
-    word-requires
+    slice-aggregate-line
+    line-requires
     same-length
     returns
     clock-requires

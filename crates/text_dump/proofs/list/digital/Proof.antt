@@ -29,11 +29,11 @@ slice-aggregate-flag-2 c = search needs
 flag-requires-2 : tie.Need-flag-requires-2
 flag-requires-2 c κs = search needs
 
-slice-aggregate-word : tie.Need-slice-aggregate-word
-slice-aggregate-word c = search needs
+slice-aggregate-line : tie.Need-slice-aggregate-line
+slice-aggregate-line c = search needs
 
-word-requires : tie.Need-word-requires
-word-requires c κs = search needs
+line-requires : tie.Need-line-requires
+line-requires c κs = search needs
 
 same-length : tie.Need-same-length
 same-length c = search needs
@@ -52,7 +52,7 @@ returns c =
     behind
     (behind (behind (behind (named .number .ensures) (spoken .language-bytes .ensures)) (easy .flag .ensures))
     (wide .flag2 .ensures))
-    (ended .word .ensures)
+    (ended .line .ensures)
 
 pub digital-spec : {M : Type 1} → statement M
 digital-spec =
@@ -66,7 +66,7 @@ digital-spec =
     flag-requires
     slice-aggregate-flag-2
     flag-requires-2
-    slice-aggregate-word
-    word-requires
+    slice-aggregate-line
+    line-requires
     same-length
     returns)

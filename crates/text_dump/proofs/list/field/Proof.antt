@@ -17,11 +17,11 @@ number-requires c κs = search needs
 language-bytes-requires : tie.Need-language-bytes-requires
 language-bytes-requires c κs = search needs
 
-slice-aggregate-word : tie.Need-slice-aggregate-word
-slice-aggregate-word c = search needs
+slice-aggregate-line : tie.Need-slice-aggregate-line
+slice-aggregate-line c = search needs
 
-word-requires : tie.Need-word-requires
-word-requires c κs = search needs
+line-requires : tie.Need-line-requires
+line-requires c κs = search needs
 
 same-length : tie.Need-same-length
 same-length c = search needs
@@ -34,7 +34,7 @@ returns c =
     let named-lent = spoken .before .before .before in
     let named = named-lent .before in
     let which = rw (named .before .field-number .ensures) at (named .number .ensures) in
-    behind (behind which (spoken .language-bytes .ensures)) (ended .word .ensures)
+    behind (behind which (spoken .language-bytes .ensures)) (ended .line .ensures)
 
 pub field-spec : {M : Type 1} → statement M
 field-spec =
@@ -44,7 +44,7 @@ field-spec =
     field-number-requires
     number-requires
     language-bytes-requires
-    slice-aggregate-word
-    word-requires
+    slice-aggregate-line
+    line-requires
     same-length
     returns)

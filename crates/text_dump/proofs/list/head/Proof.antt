@@ -29,11 +29,11 @@ slice-aggregate-flag-3 c = search needs
 flag-requires-3 : tie.Need-flag-requires-3
 flag-requires-3 c κs = search needs
 
-slice-aggregate-word : tie.Need-slice-aggregate-word
-slice-aggregate-word c = search needs
+slice-aggregate-line : tie.Need-slice-aggregate-line
+slice-aggregate-line c = search needs
 
-word-requires : tie.Need-word-requires
-word-requires c κs = search needs
+line-requires : tie.Need-line-requires
+line-requires c κs = search needs
 
 same-length : tie.Need-same-length
 same-length c = search needs
@@ -52,7 +52,7 @@ returns c =
     behind
     (behind (behind (behind (count .number .ensures) (start .flag .ensures)) (change .flag2 .ensures))
     (complete .flag3 .ensures))
-    (ended .word .ensures)
+    (ended .line .ensures)
 
 pub head-spec : {M : Type 1} → statement M
 head-spec =
@@ -66,7 +66,7 @@ head-spec =
     flag-requires-2
     slice-aggregate-flag-3
     flag-requires-3
-    slice-aggregate-word
-    word-requires
+    slice-aggregate-line
+    line-requires
     same-length
     returns)

@@ -9,11 +9,11 @@ use borrow.Author.Needs.{needs}
 use Rattle.text_dump.proofs.list.services.Statement.{statement}
 use Rattle.text_dump.proofs.list.services.Tie as tie
 
-slice-aggregate-word : tie.Need-slice-aggregate-word
-slice-aggregate-word c = search needs
+slice-aggregate-line : tie.Need-slice-aggregate-line
+slice-aggregate-line c = search needs
 
-word-requires : tie.Need-word-requires
-word-requires c κs = search needs
+line-requires : tie.Need-line-requires
+line-requires c κs = search needs
 
 same-length : tie.Need-same-length
 same-length c = search needs
@@ -24,7 +24,7 @@ returns c =
     let ended = c .before .before in
     let tested = ended .before .before .before in
     let none : tested .before .before .before .args .shown .present ≡ false = not-true _ (tested .if1 .taken) in
-    rw none (ended .word .ensures)
+    rw none (ended .line .ensures)
 
 head-requires : tie.Need-head-requires
 head-requires c κs = search needs
@@ -50,8 +50,8 @@ pub services-spec : {M : Type 1} → statement M
 services-spec =
     tie.close
     (tie.spec
-    slice-aggregate-word
-    word-requires
+    slice-aggregate-line
+    line-requires
     same-length
     returns
     head-requires
