@@ -20,14 +20,14 @@ use Rattle.reader.specs.Reader.{bufferAfter, captionsOf, cleared, read, readChe
 use Rattle.reader.specs.Shown.{freshReader, shownBy}
 use Rattle.service_entries.specs.Entries.{places}
 use Rattle.service_list.specs.Section.{listOf}
-use Rattle.text_dump.specs.Dump.{packetLines, readLines}
+use Rattle.text_dump.specs.Dump.{newlyRead, packetLines, readLines}
 use Rattle.text_dump.specs.Lines.{answerLine, shownLines}
 use Rattle.basis.specs.declared.answer.Answer.{Answer}
 use Rattle.reader.specs.declared.parser.CDPParser.{CDPParser}
 use Rattle.reader.specs.declared.parser.CDPParserRead.{CDPParserRead}
 
 -- what is shown of an accepted packet is what its bytes say, and so is the length beside 0
-module _ (p : List ℕ) (h : eqb (read freshReader p captionRoom .answer .number) 0 ≡ true) where
+module _ (p : List ℕ) (h : eqb (newlyRead p .answer .number) 0 ≡ true) where
   all-clear : verdict (readChecks p captionRoom) ≡ clear
   unfolding read
   all-clear = done-clear (verdict (readChecks p captionRoom)) (captionsLength p) h
@@ -35,11 +35,11 @@ module _ (p : List ℕ) (h : eqb (read freshReader p captionRoom .answer .number
   pub packet-kept : verdict (packetChecks p) ≡ clear
   packet-kept = kept-rest (roomCheck captionRoom captionRoom) (packetChecks p) all-clear
 
-  pub answer-is : read freshReader p captionRoom .answer ≡ done (captionsLength p)
+  pub answer-is : newlyRead p .answer ≡ done (captionsLength p)
   unfolding read
   answer-is = ap (λ (v : Verdict). answer v (captionsLength p)) all-clear
 
-  pub parser-is : read freshReader p captionRoom .parser ≡ shownBy p
+  pub parser-is : newlyRead p .parser ≡ shownBy p
   unfolding read
   parser-is = ap (λ (v : Verdict). ifClear v (shownBy p) (cleared freshReader)) all-clear
 
@@ -59,7 +59,7 @@ few-shown p = few-entries p (flagsIn p .«svc_info») (servicesAt p)
 -- what a new reader gave: its answer and its state, and the caption buffer as it was left
 module _ (s : CDPParser) (p buffer after : List ℕ) (r : CDPParserRead) (new : s ≡ freshReader)
     (room : length buffer ≡ captionRoom) (gave : r ≡ read s p (length buffer)) (left : after ≡ bufferAfter p buffer) where
-  as-read : r ≡ read freshReader p captionRoom
+  as-read : r ≡ newlyRead p
   as-read = gave ∙ rw (new, room)
 
   -- a refusal: its answer's line and nothing else
@@ -68,7 +68,7 @@ module _ (s : CDPParser) (p buffer after : List ℕ) (r : CDPParserRead) (new : 
   refused-lines h = rw (← as-read, h)
 
   module _ (done : eqb (r .answer .number) 0 ≡ true) where
-    accepted : eqb (read freshReader p captionRoom .answer .number) 0 ≡ true
+    accepted : eqb (newlyRead p .answer .number) 0 ≡ true
     accepted = rw as-read at done
 
     handed-out : take (r .answer .first) after ≡ captionsOf p

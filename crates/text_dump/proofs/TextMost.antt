@@ -16,8 +16,8 @@ use Rattle.read_packet.specs.Packet.{captionsLength, servicesAt, timeCodeAt}
 use Rattle.read_services.specs.Services.{servicesOf, servicesPart}
 use Rattle.read_time_code.specs.TimeCode.{timeCodeOf}
 use Rattle.reader.proofs.ReaderReads.{captions-long}
-use Rattle.reader.specs.Reader.{captionsOf, read}
-use Rattle.reader.specs.Shown.{freshReader, shownBy}
+use Rattle.reader.specs.Reader.{captionsOf}
+use Rattle.reader.specs.Shown.{shownBy}
 use Rattle.service_entries.specs.Entries.{countOf, entriesOf, filled, places}
 use Rattle.service_entry.specs.Service.{digitalEntry, filler, numberOf}
 use Rattle.service_list.specs.Section.{listOf}
@@ -27,7 +27,7 @@ use Rattle.text.proofs.LinesPut.{lines-append}
 use Rattle.text.proofs.Sizes.{each-most, flag-size, hex-size, two-size}
 use Rattle.text.specs.Digits.{decimalText}
 use Rattle.text.specs.Lines.{linesText}
-use Rattle.text_dump.specs.Dump.{dumpText, mostInput, mostText, packetLines, readLines}
+use Rattle.text_dump.specs.Dump.{dumpText, mostInput, mostText, newlyRead, packetLines, readLines}
 use Rattle.text_dump.specs.Lines.{answerLine, bothValues, captionLines, entryLine, placeLine, rateLine, sequenceLine, serviceLine, serviceLines, shownLines, timeLine, tripletLine}
 use Rattle.text_dump.proofs.PacketDumped.{answer-is, few-listed, packet-kept, parser-is}
 use Rattle.values.specs.Layout.{captionRoom, sectionEntrySize}
@@ -159,9 +159,9 @@ place-most d k =
     service-most (e .service) (e .language) (entries-small d 2 (countOf d) (places - length (entriesOf d 2 (countOf d))) k)
 
 -- the list's lines
-list-cases : (d : List ℕ) → length (linesText (serviceLines (listPresent (listOf d)))) ≤ 520
+list-most : (d : List ℕ) → length (linesText (serviceLines (listPresent (listOf d)))) ≤ 520
 unfolding serviceLines
-list-cases d =
+list-most d =
     let l : ServiceInfo = listOf d in
     let count : l .count ≤ 15 = few-listed d in
     let each : length (linesText (made (placeLine (l .services)) (l .count))) ≤ 32 * l .count =
@@ -171,7 +171,7 @@ list-cases d =
 
 services-most : (p : List ℕ) (there : Bool) (i : ℕ) → length (linesText (serviceLines (servicesOf p there i))) ≤ 520
 unfolding serviceLines
-services-most p true i = list-cases (servicesPart p i)
+services-most p true i = list-most (servicesPart p i)
 services-most p false i = lit≤ tt
 
 -- what is shown of a packet and handed out, of bytes
@@ -199,7 +199,7 @@ refused-most : (a : Answer) → length (linesText (answerLine a ∷ [])) ≤ mos
 refused-most a = simp length-append (omega (arith, answer-most a))
 
 accepted-most : (p : List ℕ) → ((i : ℕ) → byte p i < 256)
-    → eqb (read freshReader p captionRoom .answer .number) 0 ≡ true → length (linesText (packetLines p)) ≤ mostText
+    → eqb (newlyRead p .answer .number) 0 ≡ true → length (linesText (packetLines p)) ≤ mostText
 unfolding readLines
 accepted-most p bytes h =
     let few : length (captionsOf p) ≤ captionRoom =
@@ -208,15 +208,15 @@ accepted-most p bytes h =
     (simp length-append (omega (arith, done-size (captionsLength p), shown-most p bytes few)))
 
 packet-cases : (p : List ℕ) → ((i : ℕ) → byte p i < 256) → (accepted : Bool)
-    → eqb (read freshReader p captionRoom .answer .number) 0 ≡ accepted → length (linesText (packetLines p)) ≤ mostText
+    → eqb (newlyRead p .answer .number) 0 ≡ accepted → length (linesText (packetLines p)) ≤ mostText
 unfolding readLines
 packet-cases p bytes true e = accepted-most p bytes e
-packet-cases p bytes false e = rw e (refused-most (read freshReader p captionRoom .answer))
+packet-cases p bytes false e = rw e (refused-most (newlyRead p .answer))
 
 input-cases : (p : List ℕ) → ((i : ℕ) → byte p i < 256) → (short : Bool) → leb (length p) mostInput ≡ short
     → length (dumpText p) ≤ mostText
 unfolding dumpText
-input-cases p bytes true e = rw e (packet-cases p bytes (eqb (read freshReader p captionRoom .answer .number) 0) refl)
+input-cases p bytes true e = rw e (packet-cases p bytes (eqb (newlyRead p .answer .number) 0) refl)
 input-cases p bytes false e = rw e (lit≤ tt)
 
 -- no input has a longer text than this

@@ -17,8 +17,12 @@ unfoldable pub readLines : CDPParserRead → List ℕ → List Line
 readLines r handedOut =
     answerLine (r .answer) ∷ cond (eqb (r .answer .number) 0) (shownLines (r .parser) handedOut) []
 
+-- what a new reader gives of a packet, with just the room for the captions that it asks for
+abbrev pub newlyRead : List ℕ → CDPParserRead
+newlyRead p = read freshReader p captionRoom
+
 abbrev pub packetLines : List ℕ → List Line
-packetLines p = readLines (read freshReader p captionRoom) (captionsOf p)
+packetLines p = readLines (newlyRead p) (captionsOf p)
 
 -- the most bytes that are taken
 abbrev pub mostInput : ℕ

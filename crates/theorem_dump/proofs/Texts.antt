@@ -21,7 +21,7 @@ use Rattle.text.specs.Ascii.{ascii}
 use Rattle.text.specs.Digits.{decimalText, flagText, hexText, numberAfter, twoDigits}
 use Rattle.text.specs.Lines.{lineText, linesText}
 use Rattle.text_dump.proofs.TextMost.{dump-most}
-use Rattle.text_dump.specs.Dump.{dumpText, mostInput, readLines}
+use Rattle.text_dump.specs.Dump.{dumpText, mostInput, newlyRead, readLines}
 use Rattle.text_dump.specs.Lines.{
   answerLine,
   captionLines,
@@ -32,7 +32,7 @@ use Rattle.text_dump.specs.Lines.{
   shownLines,
   timeLine,
 }
-use Rattle.theorem_dump.specs.Texts.{Texts, newlyRead}
+use Rattle.theorem_dump.specs.Texts.{Texts}
 
 nought : decimalText 0 ≡ ascii "0"
 unfolding decimalText

@@ -7,15 +7,12 @@ use Prim.Native.Nat.{ℕ, zero, suc, _+_, _≤_, _<_}
 use lib.Dec.{eqb}
 use lib.ListN.{length, replicate}
 use Rattle.basis.specs.Bytes.{byte}
-use Rattle.values.specs.Layout.{captionRoom}
-use Rattle.reader.specs.Reader.{captionsOf, read}
-use Rattle.reader.specs.Shown.{freshReader}
+use Rattle.reader.specs.Reader.{captionsOf}
 use Rattle.text.specs.Ascii.{ascii}
 use Rattle.text.specs.Digits.{numberAfter}
 use Rattle.text.specs.Lines.{lineText, linesText}
-use Rattle.text_dump.specs.Dump.{dumpText, mostInput, mostText}
+use Rattle.text_dump.specs.Dump.{dumpText, mostInput, mostText, newlyRead}
 use Rattle.text_dump.specs.Lines.{shownLines}
-use Rattle.reader.specs.declared.parser.CDPParserRead.{CDPParserRead}
 
 -- a time code, one caption and one digital service
 abbrev pub examplePacket : List ℕ
@@ -36,10 +33,6 @@ longestPacket =
     ++ (0x73 ∷ 0xDF ∷ [])
     ++ fromTen 15
     ++ (0x74 ∷ 0xFF ∷ 0xFF ∷ 0xF8 ∷ [])
-
--- what a new reader gives of a packet
-abbrev pub newlyRead : List ℕ → CDPParserRead
-newlyRead p = read freshReader p captionRoom
 
 pub record Texts : Type 0 where
   -- the example's eight lines
