@@ -8,13 +8,12 @@ use lib.Dec.{eqb}
 use Rattle.basis.proofs.Verdicts.{done-clear, done-value, when-there}
 use Rattle.basis.specs.Answer.{done}
 use Rattle.basis.specs.Check.{Verdict, answer, broken, clear, ifClear, verdict}
-use Rattle.read_header.specs.Header.{flagsIn, rateOf, sequenceIn}
-use Rattle.read_time_code.specs.TimeCode.{timeCodeOf}
-use Rattle.read_services.specs.Services.{servicesChecks, servicesOf}
+use Rattle.read_header.specs.Header.{flagsIn}
+use Rattle.read_services.specs.Services.{servicesChecks}
 use Rattle.read_packet.proofs.PacketReads.{given, services-of-packet}
-use Rattle.read_packet.specs.Packet.{timeCodeAt, captionsLength, captionsAt, packetChecks, servicesAt}
+use Rattle.read_packet.specs.Packet.{captionsLength, captionsAt, packetChecks, servicesAt}
 use Rattle.read_packet.specs.Code.{checkedRead, checkedShown, refusedChecked}
-use Rattle.reader.specs.Shown.{freshReader, shownBy, state}
+use Rattle.reader.specs.Shown.{freshReader, shownBy}
 use Rattle.reader.specs.Code.{packetRead, refusedPacket}
 use Rattle.reader.specs.declared.packet_read.PacketRead.{PacketRead}
 use Rattle.reader.specs.declared.parser.CDPParser.{CDPParser}
@@ -76,9 +75,3 @@ module _ (p : List ℕ) where
   pub kept-so : (f : Flags) (i : ℕ) → verdict (packetChecks p) ≡ clear → f ≡ flagsIn p → i ≡ servicesAt p
       → f .«svc_info» ≡ true → verdict (servicesChecks p f i) ≡ clear
   kept-so f i v fe ie = rw (fe, ie) (list-kept v)
-
-  pub shown-is : state (rateOf p) (timeCodeOf p (flagsIn p .«time_code») timeCodeAt) (sequenceIn p)
-      (servicesOf p (flagsIn p .«svc_info») (servicesAt p))
-      ≡ shownBy p
-  unfolding shownBy
-  shown-is = refl

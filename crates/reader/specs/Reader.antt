@@ -7,12 +7,10 @@ use lib.ListN.{length}
 use Rattle.basis.specs.Bytes.{over}
 use Rattle.basis.specs.Check.{Check, roomCheck, verdict, answer, ifClear}
 use Rattle.values.specs.Layout.{captionRoom}
-use Rattle.values.specs.Rate.{noRate}
-use Rattle.values_time.specs.Time.{timeAbsent}
 use Rattle.read_captions.specs.Captions.{handedOut}
 use Rattle.read_header.specs.Header.{flagsIn}
 use Rattle.read_packet.specs.Packet.{captionsAt, captionsLength, packetChecks}
-use Rattle.reader.specs.Shown.{freshReader, shownBy, state}
+use Rattle.reader.specs.Shown.{freshReader, shownBy, withServices}
 use Rattle.reader.specs.declared.parser.CDPParser.{CDPParser}
 use Rattle.reader.specs.declared.parser.CDPParserRead.{CDPParserRead}
 
@@ -20,9 +18,9 @@ use Rattle.reader.specs.declared.parser.CDPParserRead.{CDPParserRead}
 abbrev pub readChecks : List ℕ → ℕ → List Check
 readChecks p room = roomCheck captionRoom room ∷ packetChecks p
 
--- a refused packet: rate and time code absent, sequence 0, the service list as it was
+-- a refused packet: all as in a new reader, the service list as it was
 abbrev pub cleared : CDPParser → CDPParser
-cleared s = state noRate timeAbsent 0 (s .«service_info»)
+cleared s = withServices (s .«service_info») freshReader
 
 -- the answer, and the state: replaced, cleared, or as it was where the buffer is too short
 unfoldable pub read : CDPParser → List ℕ → ℕ → CDPParserRead

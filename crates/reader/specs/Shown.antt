@@ -17,6 +17,10 @@ abbrev pub state : MaybeFramerate → MaybeTimeCode → ℕ → MaybeServiceInfo
 state rate time sequence services =
     record { framerate = rate; «time_code» = time; sequence = sequence; «service_info» = services }
 
+-- a list put into a state: all else is as it was
+abbrev pub withServices : MaybeServiceInfo → CDPParser → CDPParser
+withServices services s = state (s .framerate) (s .«time_code») (s .sequence) services
+
 -- a new reader: all absent, sequence 0
 abbrev pub freshReader : CDPParser
 freshReader = state noRate timeAbsent 0 listAbsent

@@ -4,7 +4,7 @@ ghost use mathlib.Core.Path.{_≡_};
 ghost use lib.ListN.{length};
 ghost use Rattle.values.specs.Code.{layoutConstants};
 ghost use Rattle.values.specs.Layout.{captionRoom};
-ghost use Rattle.reader.specs.Shown.{freshReader};
+ghost use Rattle.reader.specs.Shown.{freshReader, withServices};
 ghost use Rattle.reader.specs.Reader as Reader;
 use crate::hand_out::hand_out;
 use crate::shown::shown;
@@ -61,13 +61,7 @@ impl CDPParser {
     pub fn new() -> Self
         ensures { λ r. ⌜ r ≡ freshReader ⌝ }
     {
-        let service_info = MaybeServiceInfo::absent();
-        Self {
-            framerate: MaybeFramerate::ABSENT,
-            time_code: MaybeTimeCode::ABSENT,
-            sequence: 0,
-            service_info,
-        }
+        Self::holding(MaybeServiceInfo::absent())
     }
 
     // Reads a packet. An accepted one replaces all that is shown, and its captions are put into the lent buffer.
@@ -109,6 +103,13 @@ impl CDPParser {
         ensures { λ r. ⌜ r ≡ Reader.cleared self ⌝ }
     {
         let service_info = self.service_info;
+        Self::holding(service_info)
+    }
+
+    // A new reader's state, with a list in it.
+    fn holding(service_info: MaybeServiceInfo) -> Self
+        ensures { λ r. ⌜ r ≡ withServices «service_info» freshReader ⌝ }
+    {
         Self {
             framerate: MaybeFramerate::ABSENT,
             time_code: MaybeTimeCode::ABSENT,

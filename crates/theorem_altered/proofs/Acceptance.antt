@@ -29,7 +29,7 @@ use Rattle.read_services.proofs.ServicesAlone.{FlagsOf, alone}
 use Rattle.read_services.specs.Services.{servicesChecks, servicesOf, servicesSize}
 use Rattle.read_packet.proofs.PacketReads.{closing-of-packet, in-order, services-of-packet}
 use Rattle.read_packet.specs.Packet.{timeCodeAt, captionsLength, captionsAt, closingAt, footerAt, packetChecks, servicesAt}
-use Rattle.reader.specs.Shown.{shownBy, state}
+use Rattle.reader.specs.Shown.{shownBy, withServices}
 use Rattle.reader.specs.Reader.{captionsOf}
 use Rattle.theorem_altered.proofs.Outside.{
   Same,
@@ -215,6 +215,6 @@ module _ (p q : List ℕ) (a : Altered p q) where
       ∙ sym (in-order p)
       ∙ put .accepted
 
-  pub shown-too : shownBy q ≡ state (shownBy p .framerate) (shownBy p .«time_code») (shownBy p .sequence) (newList p q)
+  pub shown-too : shownBy q ≡ withServices (newList p q) (shownBy p)
   unfolding shownBy
   shown-too = rw (rated, time-kept, sequenced, list-new)

@@ -4,7 +4,7 @@ use mathlib.Core.List.{List, [], _∷_}
 use Prim.Native.Nat.{ℕ, _≤_}
 use lib.Dec.{eqb}
 use lib.ListN.{length}
-use Rattle.reader.specs.Shown.{state}
+use Rattle.reader.specs.Shown.{withServices}
 use Rattle.theorem_altered.specs.Alteration.{newCaptions, newList}
 use Rattle.theorem_altered.specs.Calls.{Call, Shown, flush, packet}
 use Rattle.reader.specs.declared.parser.CDPParser.{CDPParser}
@@ -62,7 +62,7 @@ exceptedAfter (altered p q lent lent′) a e = listIs (newList p q)
 
 abbrev pub withList : Excepted → CDPParser → CDPParser
 withList nothing s = s
-withList (listIs l) s = state (s .framerate) (s .«time_code») (s .sequence) l
+withList (listIs l) s = withServices l s
 
 -- the altered packets' captions, which are the new ones
 abbrev pub withCaptions : Twin → List ℕ → List ℕ

@@ -7,8 +7,11 @@ use Rattle.reader.proofs.parser.CDPParser.new.Tie as tie
 absent-requires : tie.Need-absent-requires
 absent-requires c κs = search needs
 
+holding-requires : tie.Need-holding-requires
+holding-requires c κs = search needs
+
 returns : tie.Need-returns
-returns c = rw (c .absent .ensures)
+returns c = rw (c .holding .ensures, c .before .absent .ensures)
 
 pub new-spec : {M : Type 1} → statement M
-new-spec = tie.close (tie.spec absent-requires returns)
+new-spec = tie.close (tie.spec absent-requires holding-requires returns)
