@@ -2,8 +2,8 @@
 
 use crate::Flags;
 
-/// Time code, captions, services, start, change, complete as the crate reads them off the byte.
-pub fn flags_read(byte: u8) -> [bool; 6] {
+/// Time code, captions, services, start, change, complete, active as the crate reads them off the byte.
+pub fn flags_read(byte: u8) -> [bool; 7] {
     let flags = Flags::from(byte);
     [
         flags.time_code,
@@ -12,10 +12,11 @@ pub fn flags_read(byte: u8) -> [bool; 6] {
         flags.svc_info_start,
         flags.svc_info_change,
         flags.svc_info_complete,
+        flags.caption_service_active,
     ]
 }
 
-/// The byte that the crate makes of the same six flags, the caption service active.
+/// The byte that the crate makes of the first six of these, the caption service active.
 pub fn flags_made(six: [bool; 6]) -> u8 {
     u8::from(Flags {
         time_code: six[0],

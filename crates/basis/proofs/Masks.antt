@@ -29,6 +29,7 @@ rows =
     ∷ row Mask.x10 0x10
     ∷ row Mask.x08 0x08
     ∷ row Mask.x04 0x04
+    ∷ row Mask.x02 0x02
     ∷ row Mask.xC0 0xC0
     ∷ row Mask.xE0 0xE0
     ∷ row Mask.xF0 0xF0

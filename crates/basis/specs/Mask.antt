@@ -50,6 +50,9 @@ x08 = bitRun 1 3
 abbrev pub x04 : Mask
 x04 = bitRun 1 2
 
+abbrev pub x02 : Mask
+x02 = bitRun 1 1
+
 abbrev pub xC0 : Mask
 xC0 = bitRun 2 6
 

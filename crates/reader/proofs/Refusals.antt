@@ -64,6 +64,13 @@ keeps false v room length shown s h = refl
 keeps true clear room length shown s h = absurd (true≢false h)
 keeps true (broken why) room length shown s h = refl
 
+shows : (enough : Bool) (v : Verdict) (room length : ℕ) (shown s : CDPParser)
+    → eqb (gives enough v room length shown s .answer .number) 0 ≡ true
+    → gives enough v room length shown s .parser ≡ shown
+shows false v room length shown s h = absurd (true≢false (sym h))
+shows true clear room length shown s h = refl
+shows true (broken why) room length shown s h = absurd (true≢false (sym h ∙ refused-not-done why))
+
 module _ (s : CDPParser) (p buffer : List ℕ) where
   -- what reading this packet with this caption buffer gives
   abbrev given : CDPParserRead
@@ -84,7 +91,7 @@ module _ (s : CDPParser) (p buffer : List ℕ) where
       eleven (leb captionRoom (length buffer)) (verdict (packetChecks p)) (length buffer) (captionsLength p)
       (shownBy p) s (packet-fine p) (eq-eqb _ _ h)
 
-  -- any other refusal clears rate, time code and sequence
+  -- any other refusal clears rate, time code and sequence, and turns the caption-active mark off
   module _ (refusal : eqb (given .answer .number) 0 ≡ false) (other : eqb (given .answer .number) 11 ≡ false) where
     pub refusal-clears : given .parser ≡ cleared s
     unfolding read
@@ -100,6 +107,16 @@ module _ (s : CDPParser) (p buffer : List ℕ) where
 
     pub refusal-clears-sequence : given .parser .sequence ≡ 0
     refusal-clears-sequence = ap (λ (r : CDPParser). r .sequence) refusal-clears
+
+    pub refusal-turns-active-off : given .parser .«caption_active» ≡ false
+    refusal-turns-active-off = ap (λ (r : CDPParser). r .«caption_active») refusal-clears
+
+  -- an accepted packet leaves what it shows, and nothing of the state before it
+  pub acceptance-shows : eqb (given .answer .number) 0 ≡ true → given .parser ≡ shownBy p
+  unfolding read
+  acceptance-shows h =
+      shows (leb captionRoom (length buffer)) (verdict (packetChecks p)) (length buffer) (captionsLength p)
+      (shownBy p) s h
 
   -- a packet over 255 bytes, which no length byte can say, is refused
   pub long-refused : byte p 2 ≤ 255 → 255 < length p → eqb (given .answer .number) 0 ≡ false

@@ -18,7 +18,7 @@ use Rattle.reader.specs.declared.parser.CDPParserRead.{CDPParserRead}
 abbrev pub readChecks : List ℕ → ℕ → List Check
 readChecks p room = roomCheck captionRoom room ∷ packetChecks p
 
--- a refused packet: all as in a new reader, the service list as it was
+-- a refused packet: all as in a new reader, the caption-active mark too, and the service list as it was
 abbrev pub cleared : CDPParser → CDPParser
 cleared s = withServices (s .«service_info») freshReader
 

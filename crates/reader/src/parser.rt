@@ -21,6 +21,8 @@ pub struct CDPParser {
     pub time_code: MaybeTimeCode,
     pub sequence: u16,
     pub service_info: MaybeServiceInfo,
+    // Whether captioning was on air.
+    pub caption_active: bool,
 }
 
 // What reading gives: the answer, and the reader as it is from then on.
@@ -115,6 +117,7 @@ impl CDPParser {
             time_code: MaybeTimeCode::ABSENT,
             sequence: 0,
             service_info,
+            caption_active: false,
         }
     }
 }

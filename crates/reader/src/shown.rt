@@ -22,5 +22,6 @@ pub(crate) fn shown(read: Checked, packet: &[u8]) -> CDPParser
         time_code,
         sequence: read.sequence,
         service_info: list(packet, flags, read.services_at),
+        caption_active: flags.caption_service_active,
     }
 }

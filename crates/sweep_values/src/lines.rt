@@ -39,7 +39,8 @@ pub fn flags(out: &mut [u8], byte: u64) -> bool {
         f.svc_info_change,
         f.svc_info_complete,
     );
-    written(out, services)
+    let active = flag(out, services, b" ", f.caption_service_active);
+    written(out, active)
 }
 
 fn three(out: &mut [u8], at: usize, a: bool, b: bool, c: bool) -> usize {
@@ -56,6 +57,7 @@ pub fn made(out: &mut [u8], six: u64) -> bool {
         svc_info_start: six / 4 % 2 == 1,
         svc_info_change: six / 2 % 2 == 1,
         svc_info_complete: six % 2 == 1,
+        caption_service_active: true,
     };
     let named = number(out, 0, b"made ", six);
     let shown = hex(out, named, b" ", f.to_byte());

@@ -44,6 +44,7 @@ pub fn run(line: &[u8], given: &mut [u8], lent: &mut [u8], out: &mut [u8], s: St
     match letter {
         b'P' => packet::read(line, given, lent, out, s),
         b'F' => packet::flush(line, out, s),
+        b'G' => packet::active(line, out, s),
         _ => without_reader(line, letter, given, lent, out, s),
     }
 }

@@ -1,6 +1,8 @@
-// The operations P and F: a packet, read by the one reader of the tape, and a flush of the reader.
+// The operations P, F and G: a packet, read by the one reader of the tape, a flush of the reader, and the reader's mark.
 use crate::lent;
 use crate::operation::State;
+use crate::operation::malformed;
+use crate::print::bit;
 use crate::print::word;
 use crate::show;
 use crate::words;
@@ -51,4 +53,18 @@ pub fn flush(line: &[u8], out: &mut [u8], s: State) -> State {
         at: show::parser(out, letter, parser),
         parser,
     }
+}
+
+// Whether captioning is on air. The reader stays as it is.
+pub fn active(line: &[u8], out: &mut [u8], mut s: State) -> State {
+    s.at = mark(line, s.parser.caption_active, out, s.at);
+    s
+}
+
+fn mark(line: &[u8], active: bool, out: &mut [u8], at: usize) -> usize {
+    if !words::ends(line, 1) {
+        return malformed(out, at);
+    }
+    let named = word(out, at, b"G active ");
+    bit(out, named, active)
 }

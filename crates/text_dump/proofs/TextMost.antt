@@ -28,7 +28,7 @@ use Rattle.text.proofs.Sizes.{each-most, flag-size, hex-size, two-size}
 use Rattle.text.specs.Digits.{decimalText}
 use Rattle.text.specs.Lines.{linesText}
 use Rattle.text_dump.specs.Dump.{dumpText, mostInput, mostText, newlyRead, packetLines, readLines}
-use Rattle.text_dump.specs.Lines.{answerLine, bothValues, captionLines, entryLine, placeLine, rateLine, sequenceLine, serviceLine, serviceLines, shownLines, timeLine, tripletLine}
+use Rattle.text_dump.specs.Lines.{activeLine, answerLine, bothValues, captionLines, entryLine, placeLine, rateLine, sequenceLine, serviceLine, serviceLines, shownLines, timeLine, tripletLine}
 use Rattle.text_dump.proofs.PacketDumped.{answer-is, few-listed, packet-kept, parser-is}
 use Rattle.values.specs.Layout.{captionRoom, sectionEntrySize}
 use Rattle.values.specs.Rate.{fromId, noRate, present, row}
@@ -40,6 +40,9 @@ use Rattle.service_list.specs.declared.list.ServiceInfo.{ServiceInfo}
 use Rattle.values.specs.declared.framerate.Framerate.{Framerate}
 use Rattle.values.specs.declared.framerate.MaybeFramerate.{MaybeFramerate}
 use Rattle.values_time.specs.declared.time.MaybeTimeCode.{MaybeTimeCode}
+
+lines-size : (xs ys : List (List ℕ)) → length (linesText (xs ++ ys)) ≡ length (linesText xs) + length (linesText ys)
+lines-size xs ys = ap length (sym (lines-append xs ys)) ∙ length-append (linesText xs) (linesText ys)
 
 -- the answer's line, of any answer and of 0
 values-most : (a : Answer) → length (bothValues a) ≤ 58
@@ -174,19 +177,25 @@ unfolding serviceLines
 services-most p true i = list-most (servicesPart p i)
 services-most p false i = lit≤ tt
 
+-- whether captioning is on air
+active-size : (active : Bool) → length (linesText (activeLine active ∷ [])) ≡ 9
+unfolding activeLine
+active-size active = simp (length-append, flag-size)
+
 -- what is shown of a packet and handed out, of bytes
 shown-most : (p : List ℕ) → ((i : ℕ) → byte p i < 256) → length (captionsOf p) ≤ captionRoom
-    → length (linesText (shownLines (shownBy p) (captionsOf p))) ≤ 876
+    → length (linesText (shownLines (shownBy p) (captionsOf p))) ≤ 885
 unfolding shownLines shownBy
 shown-most p bytes few =
     let captions : List (List ℕ) = captionLines (captionsOf p) in
     let services : List (List ℕ) = serviceLines (servicesOf p (flagsIn p .«svc_info») (servicesAt p)) in
-    let both : length (linesText (captions ++ services)) ≡ length (linesText captions) + length (linesText services) =
-    ap length (sym (lines-append captions services)) ∙ length-append (linesText captions) (linesText services) in
+    let active : List (List ℕ) = activeLine (flagsIn p .«caption_service_active») ∷ [] in
     simp length-append
     (omega (
       arith,
-      both,
+      lines-size captions (services ++ active),
+      lines-size services active,
+      active-size (flagsIn p .«caption_service_active»),
       rate-most (under xF0 (byte p 3)),
       sequence-most (byte p 5) (byte p 6) (bytes 5) (bytes 6),
       time-most (timeCodeOf p (flagsIn p .«time_code») timeCodeAt),

@@ -34,4 +34,4 @@ dumpText input =
 
 -- the greatest length of a text: an accepted packet's lines, each with its end, with 31 triplets and 15 digital services
 abbrev pub mostText : ℕ
-mostText = 885
+mostText = 894

@@ -101,11 +101,14 @@ serviceLines l =
     (listLine (l .«service_info») ∷ made (placeLine (l .«service_info» .services)) (l .«service_info» .count))
     (ascii "services none" ∷ [])
 
+-- whether captioning is on air
+unfoldable pub activeLine : Bool → Line
+activeLine active = flagAfter "active " active
+
 -- what a reader shows of an accepted packet, which has a rate, and what it handed out
 unfoldable pub shownLines : CDPParser → List ℕ → List Line
 shownLines s handedOut =
     rateLine (s .framerate .framerate)
     ∷ sequenceLine (s .sequence)
     ∷ timeLine (s .«time_code»)
-    ∷ captionLines handedOut
-    ++ serviceLines (s .«service_info»)
+    ∷ (captionLines handedOut ++ (serviceLines (s .«service_info») ++ activeLine (s .«caption_active») ∷ []))

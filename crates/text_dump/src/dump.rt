@@ -19,7 +19,7 @@ impl Dump {
     pub const MOST_INPUT: usize = 4096;
 
     // The greatest length of a text.
-    pub const MOST_TEXT: usize = 885;
+    pub const MOST_TEXT: usize = 894;
 
     // Nothing calls this: its contract holds the constants above.
     fn held() -> [usize; 2]

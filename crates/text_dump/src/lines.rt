@@ -41,7 +41,8 @@ pub(crate) fn shown(out: &mut [u8], at: usize, parser: CDPParser, handed_out: &[
     let counted = sequence(out, rated, parser.sequence);
     let timed = time(out, counted, time_code);
     let captioned = captions(out, timed, handed_out);
-    services(out, captioned, service_info)
+    let listed = services(out, captioned, service_info);
+    active(out, listed, parser.caption_active)
 }
 
 fn rate(out: &mut [u8], at: usize, shown: Framerate) -> usize
@@ -58,6 +59,13 @@ fn sequence(out: &mut [u8], at: usize, shown: u16) -> usize
 {
     let count = number(out, at, b"sequence ", shown as u64);
     line(out, count, b"")
+}
+
+fn active(out: &mut [u8], at: usize, shown: bool) -> usize
+    ensures { λ r. ⌜ PutInRoom at (lineText (Lines.activeLine shown)) (now (out .entry)) r (now (out .exit)) ⌝ }
+{
+    let on = flag(out, at, b"active ", shown);
+    line(out, on, b"")
 }
 
 fn time(out: &mut [u8], at: usize, shown: MaybeTimeCode) -> usize

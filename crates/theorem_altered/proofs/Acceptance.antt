@@ -65,7 +65,7 @@ module _ (p q : List ℕ) (a : Altered p q) where
   front : Same p q 5 (captionsFrom p)
   front = before (captionsFrom p) (closingAt p) p q put
 
-  -- the flags: those that say which sections there are
+  -- the flags: those that say which sections there are, and whether captioning is on air
   flag-kept : (of : Flags → Bool) → ((l : ServiceInfo) → of (mendedFlags (flagsIn p) l) ≡ of (flagsIn p))
       → of (flagsIn q) ≡ of (flagsIn p)
   flag-kept of h = kept (flagsIn p .«svc_info») refl
@@ -82,6 +82,9 @@ module _ (p q : List ℕ) (a : Altered p q) where
 
   serviced : flagsIn q .«svc_info» ≡ flagsIn p .«svc_info»
   serviced = flag-kept (λ (f : Flags). f .«svc_info») (λ l. refl)
+
+  activated : flagsIn q .«caption_service_active» ≡ flagsIn p .«caption_service_active»
+  activated = flag-kept (λ (f : Flags). f .«caption_service_active») (λ l. refl)
 
   -- header and time code
   rated : rateOf q ≡ rateOf p
@@ -217,4 +220,4 @@ module _ (p q : List ℕ) (a : Altered p q) where
 
   pub shown-too : shownBy q ≡ withServices (newList p q) (shownBy p)
   unfolding shownBy
-  shown-too = rw (rated, time-kept, sequenced, list-new)
+  shown-too = rw (rated, time-kept, sequenced, list-new, activated)

@@ -112,4 +112,6 @@ examples =
       answeredAfter = refl;
       listed = refl;
       listedAfter = refl;
+      marked = refl;
+      markedAfter = refl;
     }

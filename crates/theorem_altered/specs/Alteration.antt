@@ -38,7 +38,7 @@ pub record Put (from to : ℕ) (p q : List ℕ) : Type 0 where
 abbrev pub sectionIn : List ℕ → List ℕ → List ℕ
 sectionIn p q = servicesPart q (servicesAt p)
 
--- three header flags are the section's, the others as they were
+-- three header flags are the section's, the others as they were, 02 among them; bit 01, which nothing reads, may be anything
 abbrev pub mendedFlags : Flags → ServiceInfo → Flags
 mendedFlags f l =
     record {
@@ -48,6 +48,7 @@ mendedFlags f l =
       «svc_info_start» = l .start;
       «svc_info_change» = l .change;
       «svc_info_complete» = l .complete;
+      «caption_service_active» = f .«caption_service_active»;
     }
 
 -- another well-formed section with as many entries, its three header flags mended

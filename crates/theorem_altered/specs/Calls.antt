@@ -14,7 +14,8 @@ pub data Call : Type 0 where
   packet : List ℕ → List ℕ → Call
   flush : Call
 
--- what a call shows: its answer with the two numbers; rate, time code, sequence and service list; the captions
+-- what a call shows: its answer with the two numbers; rate, time code, sequence, service list and caption-active mark; the
+-- captions
 pub record Shown : Type 0 where
   pub answer : Answer
   pub parser : CDPParser

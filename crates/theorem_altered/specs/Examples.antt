@@ -1,4 +1,5 @@
 -- Two different sequences of each kind that the demand speaks of, and what they show.
+use mathlib.Core.Bool.{Bool, true, false}
 use mathlib.Core.List.{List, [], _∷_, _++_}
 use mathlib.Core.Path.{_≡_}
 use Prim.Native.Nat.{ℕ}
@@ -60,6 +61,10 @@ abbrev pub lists : List Shown → List MaybeServiceInfo
 lists [] = []
 lists (a ∷ shown) = a .parser .«service_info» ∷ lists shown
 
+abbrev pub marks : List Shown → List Bool
+marks [] = []
+marks (a ∷ shown) = a .parser .«caption_active» ∷ marks shown
+
 pub record Examples : Type 0 where
   pub otherCaptions : Twins OtherCaptions (examplesTwins withCaptions′)
   pub otherServices : Twins OtherServices (examplesTwins withSpanish)
@@ -77,3 +82,6 @@ pub record Examples : Type 0 where
       ≡ listPresent (listOf english) ∷ listPresent (listOf english) ∷ listAbsent ∷ []
   pub listedAfter : lists (runCalls freshReader (calls secondOf (examplesTwins withSpanish)))
       ≡ listPresent (listOf spanish) ∷ listPresent (listOf spanish) ∷ listAbsent ∷ []
+  -- captioning is on air, and the refusal turns the mark off, in both
+  pub marked : marks (runCalls freshReader (calls firstOf (examplesTwins withSpanish))) ≡ true ∷ false ∷ false ∷ []
+  pub markedAfter : marks (runCalls freshReader (calls secondOf (examplesTwins withSpanish))) ≡ true ∷ false ∷ false ∷ []

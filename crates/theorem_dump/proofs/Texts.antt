@@ -23,6 +23,7 @@ use Rattle.text.specs.Lines.{lineText, linesText}
 use Rattle.text_dump.proofs.TextMost.{dump-most}
 use Rattle.text_dump.specs.Dump.{dumpText, mostInput, newlyRead, readLines}
 use Rattle.text_dump.specs.Lines.{
+  activeLine,
   answerLine,
   captionLines,
   entryLine,
@@ -73,7 +74,7 @@ unfolding dumpText
 too-long input h = simp (lt-leb (length input) mostInput h)
 
 pub texts : Texts
-unfolding dumpText readLines answerLine shownLines rateLine sequenceLine timeLine captionLines serviceLines entryLine
+unfolding dumpText readLines answerLine shownLines rateLine sequenceLine timeLine captionLines serviceLines entryLine activeLine
     decimalText twoDigits hexText flagText made read packetChecks closingChecks sectionChecks sameFlags shownBy fromId digits
     listOf filled
 texts =

@@ -35,7 +35,7 @@ longestPacket =
     ++ (0x74 ∷ 0xFF ∷ 0xFF ∷ 0xF8 ∷ [])
 
 pub record Texts : Type 0 where
-  -- the example's eight lines
+  -- the example's nine lines
   pub example : dumpText examplePacket
       ≡ linesText
       (ascii "answer 0"
@@ -46,6 +46,7 @@ pub record Texts : Type 0 where
       ∷ ascii "fc 41 42"
       ∷ ascii "services 1 start 1 change 0 complete 1"
       ∷ ascii "digital 1 656e67 easy 0 wide 0"
+      ∷ ascii "active 1"
       ∷ [])
   -- the shortest packet with another checksum byte, and ten zeros
   pub badChecksum : dumpText (0x96 ∷ 0x69 ∷ 0x0B ∷ 0x3F ∷ 0x01 ∷ 0x00 ∷ 0x00 ∷ 0x74 ∷ 0x00 ∷ 0x00 ∷ 0x43 ∷ [])

@@ -2,7 +2,7 @@
 -- Assumes nothing.
 use mathlib.Core.Bool.{Bool, true, false, _||_}
 use mathlib.Core.List.{List, [], _∷_, _++_}
-use mathlib.Core.Path.{_≡_, refl, sym}
+use mathlib.Core.Path.{_≡_, refl, sym, ap}
 use Prim.Native.Nat.{ℕ, _-_}
 use lib.Dec.{eqb, leb, ltb}
 use lib.ListN.{length}
@@ -62,6 +62,7 @@ use Rattle.theorem_packet.proofs.Proper.{
 }
 use Rattle.theorem_packet.specs.FirstDemand.{FirstDemand, differ, inTable, never, refuses, smaller}
 use Rattle.basis.specs.declared.answer.Answer.{Answer}
+use Rattle.reader.specs.declared.parser.CDPParser.{CDPParser}
 use Rattle.values.specs.Layout.{sectionLength}
 use Rattle.service_entry.specs.declared.entry.ServiceEntry.{ServiceEntry}
 use Rattle.service_list.specs.declared.list.ServiceInfo.{ServiceInfo}
@@ -141,5 +142,7 @@ first-demand =
           (over at bytes buffer) buffer h);
       textWrites = λ text buffer. left (verdict (roomCheck (length text) (length buffer) ∷ [])) text buffer;
       readerClears = Refusals.refusal-clears;
+      activeOff = Refusals.refusal-turns-active-off;
       readerStays = Refusals.eleven-changes-nothing;
+      activeStays = λ s p buffer h. ap (λ (r : CDPParser). r .«caption_active») (Refusals.eleven-changes-nothing s p buffer h);
     }

@@ -11,7 +11,7 @@ use lib.ListN.{length}
 use Rattle.basis.proofs.Bools.{and-left, and-right}
 use Rattle.basis.specs.Check.{clear, verdict}
 use Rattle.values.specs.Flags.{flagByte, flagsOf}
-use Rattle.basis.specs.Mask.{flag, under, x80, x40, x20, x10, x08, x04}
+use Rattle.basis.specs.Mask.{flag, under, x80, x40, x20, x10, x08, x04, x02}
 use Rattle.values.specs.Rate.{find, fromId, known, present, rates}
 use Rattle.service_list.proofs.SectionBack.{bit-back}
 use Rattle.read_header.specs.Header.{headerChecks, rateOf, sequenceIn}
@@ -72,6 +72,7 @@ record Lower (d e g : Bool) : Type 0 where
   start : under x10 (low d e g) ≡ flag d 1
   change : under x08 (low d e g) ≡ flag e 1
   complete : under x04 (low d e g) ≡ flag g 1
+  active : under x02 (low d e g) ≡ 1
 
 lower : (d e g : Bool) → Lower d e g
 lower true true true = omega arith
@@ -83,8 +84,19 @@ lower false true false = omega arith
 lower false false true = omega arith
 lower false false false = omega arith
 
-pub flags-back : (f : Flags) → flagsOf (flagByte f) ≡ f
-flags-back f =
+-- the bits below 20 are those of the lowest five
+record SameLow (whole n : ℕ) : Type 0 where
+  start : under x10 whole ≡ under x10 n
+  change : under x08 whole ≡ under x08 n
+  complete : under x04 whole ≡ under x04 n
+  active : under x02 whole ≡ under x02 n
+
+same-low : (whole n : ℕ) → whole % 32 ≡ n → SameLow whole n
+same-low whole n h = omega arith
+
+-- the flag for 02 is read as a one, whatever it was
+pub flags-back : (f : Flags) → f .«caption_service_active» ≡ true → flagsOf (flagByte f) ≡ f
+flags-back f active =
     let n : ℕ = low (f .«svc_info_start») (f .«svc_info_change») (f .«svc_info_complete») in
     let l : Lower (f .«svc_info_start») (f .«svc_info_change») (f .«svc_info_complete») =
     lower (f .«svc_info_start») (f .«svc_info_change») (f .«svc_info_complete») in
@@ -92,16 +104,16 @@ flags-back f =
     omega arith in
     let u : Upper (f .«time_code») (f .«cc_data») (f .«svc_info») n (flagByte f) =
     rw same (upper (f .«time_code») (f .«cc_data») (f .«svc_info») n (l .most)) in
-    let start : under x10 (flagByte f) ≡ under x10 n = omega (arith, u .low, l .most) in
-    let change : under x08 (flagByte f) ≡ under x08 n = omega (arith, u .low, l .most) in
-    let complete : under x04 (flagByte f) ≡ under x04 n = omega (arith, u .low, l .most) in
+    let s : SameLow (flagByte f) n = same-low (flagByte f) n (u .low) in
     rw (
       bit-back (under x80 (flagByte f)) (f .«time_code») (u .time),
       bit-back (under x40 (flagByte f)) (f .«cc_data») (u .captions),
       bit-back (under x20 (flagByte f)) (f .«svc_info») (u .services),
-      bit-back (under x10 (flagByte f)) (f .«svc_info_start») (start ∙ l .start),
-      bit-back (under x08 (flagByte f)) (f .«svc_info_change») (change ∙ l .change),
-      bit-back (under x04 (flagByte f)) (f .«svc_info_complete») (complete ∙ l .complete),
+      bit-back (under x10 (flagByte f)) (f .«svc_info_start») (s .start ∙ l .start),
+      bit-back (under x08 (flagByte f)) (f .«svc_info_change») (s .change ∙ l .change),
+      bit-back (under x04 (flagByte f)) (f .«svc_info_complete») (s .complete ∙ l .complete),
+      s .active ∙ l .active,
+      ← active,
     )
 
 -- the seven bytes, whatever stands behind them

@@ -3,6 +3,7 @@ pub mod SectionsBack
 pub mod FooterBack
 pub mod PartsBack
 pub mod RoundTrip
+pub mod ActiveMark
 pub mod ListBack
 pub mod Cases
 pub mod Proper

@@ -2,7 +2,7 @@
 -- Assumes nothing.
 use mathlib.Core.Bool.{true, false, cond}
 use mathlib.Core.List.{List, [], _∷_, _++_, append-assoc}
-use mathlib.Core.Path.{_≡_, _∙_, sym, ap, ap₂}
+use mathlib.Core.Path.{_≡_, _∙_, sym, refl, ap, ap₂}
 use Prim.Native.Nat.{ℕ, _+_, _≤_}
 use native.Mathlib.Omega.{arith}
 use borrow.Author.Tests.{le-leb}
@@ -143,7 +143,7 @@ module _ (w : CDPWriter) (rate : Framerate) (captions : List ℕ)
 
   -- the header
   flags : flagsIn p ≡ heldFlags (w .«time_code») (w .«service_info»)
-  flags = ap flagsIn laid ∙ flags-back (heldFlags (w .«time_code») (w .«service_info»))
+  flags = ap flagsIn laid ∙ flags-back (heldFlags (w .«time_code») (w .«service_info»)) refl
 
   sequence : sequenceIn p ≡ w .sequence
   sequence =
@@ -245,7 +245,8 @@ module _ (w : CDPWriter) (rate : Framerate) (captions : List ℕ)
   shown languages =
       let timed : timeCodeOf p (flagsIn p .«time_code») headerSize ≡ heldTime (w .«time_code») =
       ap (λ (f : Flags). timeCodeOf p (f .«time_code») headerSize) flags ∙ time .shown in
-      rw (rated, timed, sequence, services-shown languages)
+      let active : flagsIn p .«caption_service_active» ≡ true = ap (λ (f : Flags). f .«caption_service_active») flags in
+      rw (rated, timed, sequence, services-shown languages, active)
 
   module _ (s : CDPParser) (lent : List ℕ) (room : captionRoom ≤ length lent) where
     got : read s p (length lent)

@@ -39,9 +39,9 @@ pub record Reads (p : List ℕ) (answered : Answer) (after : CDPParser → CDPPa
 abbrev pub shows : CDPParser → CDPParser → CDPParser
 shows shown before = shown
 
--- 25/1 is there, the sequence is 0, there is no list, and this for the time code
+-- 25/1 is there, the sequence is 0, there is no list, captioning is not on air, and this for the time code
 abbrev pub rateWith : MaybeTimeCode → CDPParser
-rateWith time = state (present (row 3 25 1)) time 0 listAbsent
+rateWith time = state (present (row 3 25 1)) time 0 listAbsent false
 
 -- and no time code
 abbrev pub rateAlone : CDPParser

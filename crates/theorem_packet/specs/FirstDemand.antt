@@ -108,8 +108,13 @@ pub record FirstDemand : Type 0 where
       → refuses (EntryWriting.entryWritten e buffer .answer) → EntryWriting.entryWritten e buffer .buffer ≡ buffer
   pub putWrites : (at : ℕ) (bytes buffer : List ℕ) → refuses (putAnswer at bytes buffer) → put at bytes buffer ≡ buffer
   pub textWrites : (text buffer : List ℕ) → refuses (textWritten text buffer .answer) → textWritten text buffer .buffer ≡ buffer
-  -- a reader's refusal clears rate, time code and sequence and keeps the list; 11 changes nothing
+  -- a reader's refusal clears rate, time code and sequence, turns the caption-active mark off and keeps the list; 11 changes
+  -- nothing, the mark neither
   pub readerClears : (s : CDPParser) (p buffer : List ℕ) → refuses (read s p (length buffer) .answer)
       → eqb (read s p (length buffer) .answer .number) 11 ≡ false → read s p (length buffer) .parser ≡ cleared s
+  pub activeOff : (s : CDPParser) (p buffer : List ℕ) → refuses (read s p (length buffer) .answer)
+      → eqb (read s p (length buffer) .answer .number) 11 ≡ false → read s p (length buffer) .parser .«caption_active» ≡ false
   pub readerStays : (s : CDPParser) (p buffer : List ℕ) → read s p (length buffer) .answer .number ≡ 11
       → read s p (length buffer) .parser ≡ s
+  pub activeStays : (s : CDPParser) (p buffer : List ℕ) → read s p (length buffer) .answer .number ≡ 11
+      → read s p (length buffer) .parser .«caption_active» ≡ s .«caption_active»

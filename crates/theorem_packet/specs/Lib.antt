@@ -2,3 +2,4 @@ pub mod FirstDemand
 pub mod Refused
 pub mod Cases
 pub mod RoundTrip
+pub mod ActiveMark

@@ -41,9 +41,9 @@ listBack l = list (l .start) (l .change) (l .complete) (filled (counted l)) (l .
 abbrev pub servicesBack : MaybeServiceInfo → MaybeServiceInfo
 servicesBack services = cond (services .present) (listPresent (listBack (services .«service_info»))) listAbsent
 
--- rate, time code and whether it is held, sequence, services and whether they are held
+-- rate, time code and whether it is held, sequence, services and whether they are held; the caption-active mark is on
 abbrev pub shownBack : CDPWriter → Framerate → CDPParser
-shownBack w rate = state (present rate) (heldTime (w .«time_code»)) (w .sequence) (servicesBack (w .«service_info»))
+shownBack w rate = state (present rate) (heldTime (w .«time_code»)) (w .sequence) (servicesBack (w .«service_info»)) true
 
 -- the captions, behind the two bytes that the reader hands out before them
 abbrev pub captionsBack : List ℕ → List ℕ

@@ -40,4 +40,5 @@ noFlags =
       «svc_info_start» = false;
       «svc_info_change» = false;
       «svc_info_complete» = false;
+      «caption_service_active» = false;
     }

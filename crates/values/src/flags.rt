@@ -11,6 +11,7 @@ pub struct Flags {
     pub svc_info_start: bool,
     pub svc_info_change: bool,
     pub svc_info_complete: bool,
+    pub caption_service_active: bool,
 }
 
 impl Flags {
@@ -38,6 +39,7 @@ impl Flags {
         svc_info_start: false,
         svc_info_change: false,
         svc_info_complete: false,
+        caption_service_active: false,
     };
 
     // Nothing calls these two: their contracts hold every constant above to the rules.
@@ -62,7 +64,7 @@ impl Flags {
         Self::NONE
     }
 
-    // Bits 02 and 01 are not read.
+    // Bit 01 is not read.
     pub fn from_byte(byte: u8) -> Self
         ensures { λ r. ⌜ r ≡ flagsOf byte ⌝ }
     {
@@ -73,10 +75,11 @@ impl Flags {
             svc_info_start: byte / Self::SVC_INFO_START % 2 == 1,
             svc_info_change: byte / Self::SVC_INFO_CHANGE % 2 == 1,
             svc_info_complete: byte / Self::SVC_INFO_COMPLETE % 2 == 1,
+            caption_service_active: byte / Self::CAPTION_SERVICE_ACTIVE % 2 == 1,
         }
     }
 
-    // Bits 02 and 01 are always set.
+    // Bits 02 and 01 are always set, whatever the flag for 02 is.
     pub fn to_byte(self) -> u8
         ensures { λ r. ⌜ r ≡ flagByte self ⌝ }
     {

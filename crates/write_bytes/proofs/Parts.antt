@@ -49,6 +49,7 @@ module _ (time : MaybeTimeCode) (services : MaybeServiceInfo) where
         «svc_info_start» = start;
         «svc_info_change» = change;
         «svc_info_complete» = complete;
+        «caption_service_active» = true;
       }
 
   pub flags-without : services .present ≡ false → flags false false false false ≡ heldFlags time services

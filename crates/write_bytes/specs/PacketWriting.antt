@@ -28,6 +28,7 @@ heldFlags time services =
       «svc_info_start» = services .present && services .«service_info» .start;
       «svc_info_change» = services .present && services .«service_info» .change;
       «svc_info_complete» = services .present && services .«service_info» .complete;
+      «caption_service_active» = true;
     }
 
 -- header: 96 69, the packet's size, the rate id above four ones, the flags, the sequence

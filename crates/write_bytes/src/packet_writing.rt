@@ -54,7 +54,7 @@ pub fn write_packet(
     Answer::done(needed)
 }
 
-// What the packet has: captions always, the others where they are held.
+// What the packet has: captions always, which are on air, the others where they are held.
 fn flags(time_code: MaybeTimeCode, service_info: MaybeServiceInfo) -> Flags
     ensures { λ r. ⌜ r ≡ Writing.heldFlags «time_code» «service_info» ⌝ }
 {
@@ -66,6 +66,7 @@ fn flags(time_code: MaybeTimeCode, service_info: MaybeServiceInfo) -> Flags
             svc_info_start: false,
             svc_info_change: false,
             svc_info_complete: false,
+            caption_service_active: true,
         };
     }
     Flags {
@@ -75,6 +76,7 @@ fn flags(time_code: MaybeTimeCode, service_info: MaybeServiceInfo) -> Flags
         svc_info_start: service_info.service_info.start,
         svc_info_change: service_info.service_info.change,
         svc_info_complete: service_info.service_info.complete,
+        caption_service_active: true,
     }
 }
 

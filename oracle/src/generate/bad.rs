@@ -4,8 +4,9 @@ use crate::bad_words::{good, spoilt, Word};
 use crate::random::Random;
 use crate::tape::Tape;
 
-const SHAPES: [(&str, &[Word]); 8] = [
+const SHAPES: [(&str, &[Word]); 9] = [
     ("F", &[]),
+    ("G", &[]),
     ("P", &[Word::Room, Word::Bytes]),
     ("S", &[Word::Bytes]),
     ("E", &[Word::Six]),
@@ -34,7 +35,7 @@ const STRANGE: [u8; 14] = [
 const LETTERS: [&str; 10] = ["", "p", "f", "s", "w", "A", "PP", "0", "-", "?"];
 
 pub fn step(rng: &mut Random, tape: &mut Tape, turn: u64) {
-    let (letter, shape) = SHAPES[(turn % 8) as usize];
+    let (letter, shape) = SHAPES[(turn % 9) as usize];
     let mut words = vec![letter.to_string()];
     for word in shape {
         words.push(good(rng, word));

@@ -1,4 +1,4 @@
-//! Long runs on one reader, so that what is kept and what is cleared shows.
+//! Long runs on one reader, so that what is kept and what is cleared shows; its mark is asked for behind every call.
 
 use crate::packet::Packet;
 use crate::random::Random;
@@ -10,14 +10,19 @@ pub fn step(rng: &mut Random, tape: &mut Tape, _turn: u64) {
     let flush = rng.pick(&[3, 12, 60]);
     let good = rng.pick(&[2, 3, 8]);
     for _ in 0..50 + rng.below(250) {
-        if rng.chance(flush) {
-            tape.text("F");
-            continue;
-        }
-        let packet = any(rng, good);
-        let room = rng.pick(&[94, 95, 95, 95, 95, 96, 200]);
-        tape.packet(room, &packet);
+        call(rng, tape, flush, good);
+        tape.text("G");
     }
+}
+
+fn call(rng: &mut Random, tape: &mut Tape, flush: usize, good: usize) {
+    if rng.chance(flush) {
+        tape.text("F");
+        return;
+    }
+    let packet = any(rng, good);
+    let room = rng.pick(&[94, 95, 95, 95, 95, 96, 200]);
+    tape.packet(room, &packet);
 }
 
 fn any(rng: &mut Random, good: usize) -> Vec<u8> {

@@ -7,6 +7,7 @@ use cdp_types::{ServiceEntry, TimeCode};
 pub enum Line {
     Packet(usize, Vec<u8>),
     Flush,
+    Active,
     Section(Vec<u8>),
     Entry([u8; 6]),
     Calls(Vec<Call>),
@@ -38,6 +39,7 @@ pub fn parse(line: &[u8]) -> Option<Line> {
     match line.first()? {
         b'P' => packet(line),
         b'F' if line == b"F" => Some(Line::Flush),
+        b'G' if line == b"G" => Some(Line::Active),
         b'S' => section(line),
         b'E' => six(line),
         b'T' => calls(line),

@@ -1,6 +1,6 @@
 -- `text_dump::lines::shown`: each part's lines in turn.
 -- Assumes nothing.
-use Rattle.text.proofs.Rooms.{behind, behind-as}
+use Rattle.text.proofs.Rooms.{behind, behind-as, nothing}
 use Rattle.text.proofs.LinesPut.{lines-append}
 use Rattle.text_dump.specs.Lines.{captionLines, serviceLines, shownLines}
 use borrow.Author.Needs.{needs}
@@ -22,13 +22,18 @@ captions-requires c κs = search needs
 services-requires : tie.Need-services-requires
 services-requires c κs = search needs
 
+active-requires : tie.Need-active-requires
+active-requires c κs = search needs
+
 same-length : tie.Need-same-length
 same-length c = search needs
 
 returns : tie.Need-returns
 unfolding shownLines
 returns c =
-    let listed = c .before .before in
+    let told = c .before .before in
+    let listed-lent = told .before .before .before in
+    let listed = listed-lent .before in
     let captioned-lent = listed .before .before .before in
     let captioned = captioned-lent .before in
     let timed-lent = captioned .before .before .before in
@@ -40,7 +45,9 @@ returns c =
     behind (rated .rate .ensures)
     (behind (counted .sequence .ensures)
     (behind (timed .time .ensures)
-    (behind-as (captioned .captions .ensures) (listed .services .ensures) (lines-append (captionLines _) (serviceLines _)))))
+    (behind-as (captioned .captions .ensures)
+    (behind-as (listed .services .ensures) (behind (told .active .ensures) (nothing _ _)) (lines-append (serviceLines _) _))
+    (lines-append (captionLines _) _))))
 
 pub shown-spec : {M : Type 1} → statement M
 shown-spec =
@@ -51,5 +58,6 @@ shown-spec =
     time-requires
     captions-requires
     services-requires
+    active-requires
     same-length
     returns)
