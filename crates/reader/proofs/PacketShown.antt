@@ -4,9 +4,12 @@ use mathlib.Core.Bool.{true, false, true≢false}
 use mathlib.Core.List.{List}
 use mathlib.Core.Path.{_≡_, refl}
 use Prim.Native.Nat.{ℕ}
+use lib.Bits.{bitAnd}
 use lib.Dec.{eqb}
+use Rattle.basis.proofs.Masks.{masks}
 use Rattle.basis.proofs.Verdicts.{done-clear, done-value, when-there}
 use Rattle.basis.specs.Answer.{done}
+use Rattle.basis.specs.Bytes.{byte}
 use Rattle.basis.specs.Check.{Verdict, answer, broken, clear, ifClear, verdict}
 use Rattle.read_header.specs.Header.{flagsIn}
 use Rattle.read_services.specs.Services.{servicesChecks}
@@ -65,6 +68,11 @@ module _ (p : List ℕ) where
   pub checked-clear : verdict (packetChecks p) ≡ clear → checkedRead p ≡ checkedShown p
   unfolding checkedRead
   checked-clear v = rw v
+
+  -- the caption-active mark is the bit under 02 of byte 4
+  pub active-bit : shownBy p .«caption_active» ≡ eqb (bitAnd (byte p 4) 0x02) 0x02
+  unfolding shownBy
+  active-bit = masks .1 .1 .1 .1 .1 .1 .0 .set (byte p 4)
 
   list-kept : verdict (packetChecks p) ≡ clear → flagsIn p .«svc_info» ≡ true
       → verdict (servicesChecks p (flagsIn p) (servicesAt p)) ≡ clear

@@ -14,6 +14,7 @@ use Rattle.service_list.specs.declared.list.MaybeServiceInfo.{MaybeServiceInfo}
 use Rattle.values.specs.declared.framerate.MaybeFramerate.{MaybeFramerate}
 use Rattle.values_time.specs.declared.time.MaybeTimeCode.{MaybeTimeCode}
 
+-- rate, time code, sequence, service list and caption-active mark
 abbrev pub state : MaybeFramerate → MaybeTimeCode → ℕ → MaybeServiceInfo → Bool → CDPParser
 state rate time sequence services active =
     record { framerate = rate; «time_code» = time; sequence = sequence; «service_info» = services; «caption_active» = active }

@@ -3,13 +3,14 @@
 use mathlib.Core.Bool.{false}
 use mathlib.Core.List.{List, [], _∷_, _++_}
 use mathlib.Core.Path.{_≡_}
-use Prim.Native.Nat.{ℕ, zero, suc, _+_, _≤_, _<_}
+use Prim.Native.Nat.{ℕ, zero, suc, _+_, _-_, _≤_, _<_}
+use lib.Bits.{bitAnd}
 use lib.Dec.{eqb}
-use lib.ListN.{length, replicate}
+use lib.ListN.{drop, length, replicate}
 use Rattle.basis.specs.Bytes.{byte}
 use Rattle.reader.specs.Reader.{captionsOf}
 use Rattle.text.specs.Ascii.{ascii}
-use Rattle.text.specs.Digits.{numberAfter}
+use Rattle.text.specs.Digits.{flagAfter, numberAfter}
 use Rattle.text.specs.Lines.{lineText, linesText}
 use Rattle.text_dump.specs.Dump.{dumpText, mostInput, mostText, newlyRead}
 use Rattle.text_dump.specs.Lines.{shownLines}
@@ -61,6 +62,9 @@ pub record Texts : Type 0 where
   -- below the line of 0 stands what the reader shows and hands out
   pub acceptance : (p : List ℕ) → length p ≤ mostInput → newlyRead p .answer .number ≡ 0
       → dumpText p ≡ linesText (ascii "answer 0" ∷ shownLines (newlyRead p .parser) (captionsOf p))
+  -- the last line, nine bytes with its end, tells the bit under 02 of the packet's byte 4
+  pub lastLine : (p : List ℕ) → length p ≤ mostInput → newlyRead p .answer .number ≡ 0
+      → drop (length (dumpText p) - 9) (dumpText p) ≡ lineText (flagAfter "active " (eqb (bitAnd (byte p 4) 0x02) 0x02))
   -- an input that no reader is given
   pub tooLong : (input : List ℕ) → mostInput < length input → dumpText input ≡ ascii "input too long\n"
   -- no input has a longer text than this, and one has a text so long
