@@ -69,7 +69,7 @@ module _ (p : List ℕ) where
   unfolding checkedRead
   checked-clear v = rw v
 
-  -- the caption-active mark is the bit under 02 of byte 4
+  -- the caption-active mark is the bit under 02 of byte 4: the table's seventh row
   pub active-bit : shownBy p .«caption_active» ≡ eqb (bitAnd (byte p 4) 0x02) 0x02
   unfolding shownBy
   active-bit = masks .1 .1 .1 .1 .1 .1 .0 .set (byte p 4)

@@ -20,9 +20,9 @@ pub struct CDPParser {
     pub framerate: MaybeFramerate,
     pub time_code: MaybeTimeCode,
     pub sequence: u16,
-    pub service_info: MaybeServiceInfo,
-    // Whether captioning was on air.
+    // Whether captioning was on air. In front of the list it takes up no room: bytes are left over there.
     pub caption_active: bool,
+    pub service_info: MaybeServiceInfo,
 }
 
 // What reading gives: the answer, and the reader as it is from then on.

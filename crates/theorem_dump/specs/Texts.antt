@@ -1,5 +1,5 @@
--- What is promised of the dump's text: the example of docs/RULES.md, the text of a refusal and of an acceptance, and the
--- greatest length.
+-- What is promised of the dump's text: the example of docs/RULES.md, the text of a refusal and of an acceptance, its last
+-- line, and the greatest length.
 use mathlib.Core.Bool.{false}
 use mathlib.Core.List.{List, [], _∷_, _++_}
 use mathlib.Core.Path.{_≡_}

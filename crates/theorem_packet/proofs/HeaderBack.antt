@@ -94,7 +94,7 @@ record SameLow (whole n : ℕ) : Type 0 where
 same-low : (whole n : ℕ) → whole % 32 ≡ n → SameLow whole n
 same-low whole n h = omega arith
 
--- the flag for 02 is read as a one, whatever it was
+-- flags are read back where 02 is on, as it is always written
 pub flags-back : (f : Flags) → f .«caption_service_active» ≡ true → flagsOf (flagByte f) ≡ f
 flags-back f active =
     let n : ℕ = low (f .«svc_info_start») (f .«svc_info_change») (f .«svc_info_complete») in
