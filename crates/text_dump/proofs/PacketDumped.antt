@@ -6,17 +6,17 @@ use mathlib.Core.Path.{_≡_, _∙_, sym, ap}
 use Prim.Native.Nat.{ℕ, _≤_}
 use native.Mathlib.Omega.{arith}
 use lib.Dec.{eqb}
-use lib.ListN.{length, length-take, take}
+use lib.ListN.{length, length-take, replicate, take}
 use Rattle.basis.proofs.Verdicts.{done-clear, kept-rest}
 use Rattle.basis.specs.Answer.{done}
-use Rattle.basis.specs.Check.{Verdict, answer, clear, ifClear, roomCheck, verdict}
+use Rattle.basis.specs.Check.{Verdict, answer, clear, roomCheck, verdict}
 use Rattle.values.specs.Layout.{captionRoom}
 use Rattle.read_packet.specs.Packet.{captionsLength, packetChecks, servicesAt}
 use Rattle.read_header.specs.Header.{flagsIn}
 use Rattle.read_services.specs.Services.{servicesOf, servicesPart}
 use Rattle.reader.proofs.ReaderReads.{captions-long}
-use Rattle.reader.proofs.Refusals.{acceptance-hands-out}
-use Rattle.reader.specs.Reader.{bufferAfter, captionsOf, cleared, read, readChecks}
+use Rattle.reader.proofs.Refusals.{acceptance-hands-out, acceptance-shows}
+use Rattle.reader.specs.Reader.{bufferAfter, captionsOf, read, readChecks}
 use Rattle.reader.specs.Shown.{freshReader, shownBy}
 use Rattle.service_entries.specs.Entries.{places}
 use Rattle.service_list.specs.Section.{listOf}
@@ -40,8 +40,7 @@ module _ (p : List ℕ) (h : eqb (newlyRead p .answer .number) 0 ≡ true) where
   answer-is = ap (λ (v : Verdict). answer v (captionsLength p)) all-clear
 
   pub parser-is : newlyRead p .parser ≡ shownBy p
-  unfolding read
-  parser-is = ap (λ (v : Verdict). ifClear v (shownBy p) (cleared freshReader)) all-clear
+  parser-is = acceptance-shows freshReader p (replicate captionRoom 0) h
 
 -- no list counts more than it has places for
 pub few-listed : (d : List ℕ) → listOf d .count ≤ places
