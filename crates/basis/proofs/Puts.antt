@@ -32,10 +32,10 @@ use lib.Seq.{
   drop-append-add,
   drop-drop,
 }
-use Rattle.basis.specs.Answer.{BufferTooShort, Refusal, done}
+use Rattle.basis.specs.Answer.{done}
 use Rattle.basis.specs.Bytes.{over}
 use Rattle.basis.specs.Code.{fitting, put, putAnswer}
-use Rattle.basis.specs.Check.{answer, broken, clear, ifClear}
+use Rattle.basis.specs.Check.{Nowhere, RuleAt, answer, broken, clear, ifClear, roomCheck}
 
 -- the buffer with the first k of the bytes put
 unfoldable pub copied : ℕ → ℕ → List ℕ → List ℕ → List ℕ
@@ -132,19 +132,19 @@ unfolding over
 over-nil at buffer = rw (append-nil (take at buffer), add-zero at) (take-append-drop at buffer)
 
 -- where there is no room, or only for nothing past the end, nothing is changed
-nothing-put : (at : ℕ) (bytes buffer : List ℕ) (why : Refusal) (fits : Bool)
+nothing-put : (at : ℕ) (bytes buffer : List ℕ) (rule : RuleAt Nowhere) (fits : Bool)
     → leb (length bytes) (length buffer - at) ≡ fits
-    → length buffer < at + length bytes → buffer ≡ ifClear (cond fits clear (broken why)) (over at bytes buffer) buffer
-nothing-put at bytes buffer why false e h = refl
-nothing-put at [] buffer why true e h = sym (over-nil at buffer)
-nothing-put at (x ∷ xs) buffer why true e h = absurd (omega (arith, leb-true (length (x ∷ xs)) (length buffer - at) e))
+    → length buffer < at + length bytes → buffer ≡ ifClear (cond fits clear (broken rule)) (over at bytes buffer) buffer
+nothing-put at bytes buffer rule false e h = refl
+nothing-put at [] buffer rule true e h = sym (over-nil at buffer)
+nothing-put at (x ∷ xs) buffer rule true e h = absurd (omega (arith, leb-true (length (x ∷ xs)) (length buffer - at) e))
 
 pub short-refused : (at : ℕ) (bytes buffer : List ℕ) → length buffer < at + length bytes
     → (answer (fitting at bytes buffer) 0 ≡ putAnswer at bytes buffer) × (buffer ≡ put at bytes buffer)
 unfolding putAnswer put
 short-refused at bytes buffer h = (
   refl,
-  nothing-put at bytes buffer (BufferTooShort (length bytes) (length buffer - at))
+  nothing-put at bytes buffer (roomCheck (length bytes) (length buffer - at) .rule)
       (leb (length bytes) (length buffer - at)) refl h,
 )
 

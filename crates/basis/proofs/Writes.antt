@@ -11,7 +11,7 @@ use Rattle.basis.proofs.Puts.{take-over}
 use Rattle.basis.proofs.Verdicts.{andThen, refused-not-done, verdict-append}
 use Rattle.basis.specs.Answer.{BufferTooShort, done, refused}
 use Rattle.basis.specs.Bytes.{over}
-use Rattle.basis.specs.Check.{Check, Verdict, answer, broken, clear, roomCheck, verdict}
+use Rattle.basis.specs.Check.{WriteCheck, WriteVerdict, answer, broken, clear, roomCheck, verdict}
 use Rattle.basis.specs.Writing.{Written, written}
 use Rattle.basis.specs.declared.answer.Answer.{Answer}
 
@@ -20,23 +20,23 @@ abbrev pub Leaves : Written → Answer → List ℕ → Type 0
 Leaves w answer buffer = (answer ≡ w .answer) × (buffer ≡ w .buffer)
 
 -- where a writer answers 0, both of its verdicts are clear, and the bytes stand at the start of the buffer
-done-means : (v w : Verdict) (bytes buffer : List ℕ) → eqb (written (andThen v w) bytes buffer .answer .number) 0 ≡ true
+done-means : (v w : WriteVerdict) (bytes buffer : List ℕ) → eqb (written (andThen v w) bytes buffer .answer .number) 0 ≡ true
     → (v ≡ clear) × (written (andThen v w) bytes buffer ≡ written clear bytes buffer)
 done-means clear clear bytes buffer h = (refl, refl)
-done-means clear (broken why) bytes buffer h = absurd (false≢true (sym (refused-not-done why) ∙ h))
-done-means (broken why) w bytes buffer h = absurd (false≢true (sym (refused-not-done why) ∙ h))
+done-means clear (broken rule) bytes buffer h = absurd (false≢true (sym (refused-not-done (rule .refusal)) ∙ h))
+done-means (broken rule) w bytes buffer h = absurd (false≢true (sym (refused-not-done (rule .refusal)) ∙ h))
 
-refused-so : (v w : Verdict) (k : ℕ) (bytes buffer : List ℕ) → eqb (answer v k .number) 0 ≡ false
+refused-so : (v w : WriteVerdict) (k : ℕ) (bytes buffer : List ℕ) → eqb (answer v k .number) 0 ≡ false
     → Leaves (written (andThen v w) bytes buffer) (answer v k) buffer
 refused-so clear w k bytes buffer h = absurd (true≢false h)
-refused-so (broken why) w k bytes buffer h = (refl, refl)
+refused-so (broken rule) w k bytes buffer h = (refl, refl)
 
 -- a writer that tests the room last, behind checks of its values
-module _ (cs : List Check) (needed : ℕ) (bytes buffer : List ℕ) where
+module _ (cs : List WriteCheck) (needed : ℕ) (bytes buffer : List ℕ) where
   abbrev pub roomLast : Written
   roomLast = written (verdict (cs ++ roomCheck needed (length buffer) ∷ [])) bytes buffer
 
-  room : Verdict
+  room : WriteVerdict
   room = verdict (roomCheck needed (length buffer) ∷ [])
 
   in-order : verdict (cs ++ roomCheck needed (length buffer) ∷ []) ≡ andThen (verdict cs) room

@@ -1,51 +1,92 @@
 -- The form in which the rules are stated: lists of checks, in the order in which the rules make them.
 use mathlib.Core.Bool.{Bool, cond}
 use mathlib.Core.List.{List, [], _∷_}
-use Prim.Native.Nat.{ℕ}
+use Prim.Native.Nat.{ℕ, _+_}
 use lib.Dec.{leb}
 use lib.ListN.{length}
 use Rattle.basis.specs.Answer.{BufferTooShort, LengthMismatch, Refusal, done, refused}
 use Rattle.basis.specs.declared.answer.Answer.{Answer}
 
--- one rule at one place: whether it is kept, and what is answered where it is broken
-pub record Check : Type 0 where
-  pub kept : Bool
+-- one rule at one place: what is answered where it is broken, and the byte that it tests
+pub record RuleAt (P : Type 0) : Type 0 where
   pub refusal : Refusal
+  pub place : P
 
-abbrev pub check : Bool → Refusal → Check
-check kept refusal = record { kept = kept; refusal = refusal }
+-- a rule, and whether it is kept
+pub record CheckOf (P : Type 0) : Type 0 where
+  pub kept : Bool
+  pub rule : RuleAt P
 
--- at least so many bytes, or 1 with that and how many there are
+-- what is read has places, counted from the input's first byte
+abbrev pub Check : Type 0
+Check = CheckOf ℕ
+
+abbrev pub ruleAt : ℕ → Refusal → RuleAt ℕ
+ruleAt place refusal = record { refusal = refusal; place = place }
+
+abbrev pub checkAt : ℕ → Bool → Refusal → Check
+checkAt place kept refusal = record { kept = kept; rule = ruleAt place refusal }
+
+-- what is written, and a call on a list, has none
+pub data Nowhere : Type 0 where
+  nowhere : Nowhere
+
+abbrev pub WriteCheck : Type 0
+WriteCheck = CheckOf Nowhere
+
+abbrev pub unplaced : Refusal → RuleAt Nowhere
+unplaced refusal = record { refusal = refusal; place = nowhere }
+
+abbrev pub check : Bool → Refusal → WriteCheck
+check kept refusal = record { kept = kept; rule = unplaced refusal }
+
+-- at least so many bytes, or 1 with that and how many there are; its place is the input's size
 abbrev pub sizeCheck : List ℕ → ℕ → Check
-sizeCheck p least = check (leb least (length p)) (LengthMismatch least (length p))
+sizeCheck p least = checkAt (length p) (leb least (length p)) (LengthMismatch least (length p))
 
 -- room for so many bytes, or 11 with that and how many were lent
-abbrev pub roomCheck : ℕ → ℕ → Check
+abbrev pub roomCheck : ℕ → ℕ → WriteCheck
 roomCheck needed given = check (leb needed given) (BufferTooShort needed given)
 
 -- the checks and the size of a part that may be there
-abbrev pub when : Bool → List Check → List Check
+abbrev pub when : {P : Type 0} → Bool → List (CheckOf P) → List (CheckOf P)
 when present checks = cond present checks []
 
 abbrev pub sizeWhen : Bool → ℕ → ℕ
 sizeWhen present size = cond present size 0
 
--- what a list of checks comes to; a refusal is no answer 0 by its type, so no check is broken with "done"
-pub data Verdict : Type 0 where
-  clear : Verdict
-  broken : Refusal → Verdict
+-- the checks of a part, where it stands in its caller's input: every place is counted from there
+abbrev pub moved : ℕ → List Check → List Check
+moved from [] = []
+moved from (c ∷ cs) = checkAt (from + c .rule .place) (c .kept) (c .rule .refusal) ∷ moved from cs
 
--- clear where every check is kept, else what the first broken one answers
-abbrev pub verdict : List Check → Verdict
+-- what a list of checks comes to; a refusal is no answer 0 by its type, so no check is broken with "done"
+pub data VerdictOf (P : Type 0) : Type 0 where
+  clear : VerdictOf P
+  broken : RuleAt P → VerdictOf P
+
+abbrev pub Verdict : Type 0
+Verdict = VerdictOf ℕ
+
+abbrev pub WriteVerdict : Type 0
+WriteVerdict = VerdictOf Nowhere
+
+-- clear where every check is kept, else the first rule that is broken
+abbrev pub verdict : {P : Type 0} → List (CheckOf P) → VerdictOf P
 verdict [] = clear
-verdict (c ∷ cs) = cond (c .kept) (verdict cs) (broken (c .refusal))
+verdict (c ∷ cs) = cond (c .kept) (verdict cs) (broken (c .rule))
 
 -- the answer that a verdict gives, with the length that goes with 0
-abbrev pub answer : Verdict → ℕ → Answer
+abbrev pub answer : {P : Type 0} → VerdictOf P → ℕ → Answer
 answer clear length = done length
-answer (broken why) length = refused why
+answer (broken rule) length = refused (rule .refusal)
+
+-- the place of what is refused, 0 beside 0
+abbrev pub placeOf : Verdict → ℕ
+placeOf clear = 0
+placeOf (broken rule) = rule .place
 
 -- one value where all is clear, another beside a refusal
-abbrev pub ifClear : {A : Type 0} → Verdict → A → A → A
+abbrev pub ifClear : {P A : Type 0} → VerdictOf P → A → A → A
 ifClear clear value other = value
-ifClear (broken why) value other = other
+ifClear (broken rule) value other = other

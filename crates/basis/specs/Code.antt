@@ -18,22 +18,30 @@ use Rattle.basis.specs.Answer.{
   WrongMagic,
 }
 use Rattle.basis.specs.declared.answer.Answer.{Answer}
+use Rattle.basis.specs.declared.tested.Outcome.{Outcome}
 use Rattle.basis.specs.declared.tested.Tested.{Tested}
-use Rattle.basis.specs.Check.{roomCheck, Verdict, verdict, answer, ifClear}
+use Rattle.basis.specs.Check.{roomCheck, Verdict, WriteVerdict, verdict, answer, placeOf, ifClear}
 use Rattle.basis.specs.Bytes.{over}
 
--- what testing a part gives: the answer, and its size beside it; no size beside a refusal
-abbrev pub tested : Verdict → ℕ → Tested
-tested v size = record { answer = answer v 0; size = ifClear v size 0 }
+-- what testing gives: the answer, and the place beside it
+abbrev pub outcomeAt : Answer → ℕ → Outcome
+outcomeAt a place = record { answer = a; place = place }
 
-abbrev pub alone : Answer → Tested
-alone a = record { answer = a; size = 0 }
+abbrev pub outcome : Verdict → Outcome
+outcome v = outcomeAt (answer v 0) (placeOf v)
+
+-- what testing a part gives: its size too; no size beside a refusal
+abbrev pub tested : Verdict → ℕ → Tested
+tested v size = record { answer = answer v 0; place = placeOf v; size = ifClear v size 0 }
+
+abbrev pub alone : Answer → ℕ → Tested
+alone a place = record { answer = a; place = place; size = 0 }
 
 abbrev pub sized : ℕ → Tested
-sized size = record { answer = done 0; size = size }
+sized size = record { answer = done 0; place = 0; size = size }
 
 -- whether bytes fit into a buffer from a place on
-abbrev pub fitting : ℕ → List ℕ → List ℕ → Verdict
+abbrev pub fitting : ℕ → List ℕ → List ℕ → WriteVerdict
 fitting at bytes buffer = verdict (roomCheck (length bytes) (length buffer - at) ∷ [])
 
 -- what putting them there answers, 11 with the bytes needed and those lent from the place on; and what it leaves, beside 11 the

@@ -7,4 +7,5 @@ mod tested;
 pub use answer::Answer;
 pub use bits::flag;
 pub use buffer::put;
+pub use tested::Outcome;
 pub use tested::Tested;

@@ -4,7 +4,7 @@ use Prim.Native.Nat.{ℕ, _+_, _*_}
 use lib.Dec.{eqb}
 use Rattle.basis.specs.Answer.{WrongMagic, InvalidFixedBits}
 use Rattle.basis.specs.Bytes.{byte, part}
-use Rattle.basis.specs.Check.{Check, check, sizeCheck}
+use Rattle.basis.specs.Check.{Check, checkAt, sizeCheck}
 use Rattle.basis.specs.Mask.{under, allSet, xE0, x1F}
 use Rattle.values.specs.Layout.{captionsId, sectionHeadSize, tripletSize}
 
@@ -19,8 +19,8 @@ captionsSize p i = sectionHeadSize + tripletSize * captionCount p i
 abbrev pub captionsChecks : List ℕ → ℕ → List Check
 captionsChecks p i =
     sizeCheck p (i + sectionHeadSize)
-    ∷ check (eqb (byte p i) captionsId) WrongMagic
-    ∷ check (allSet xE0 (byte p (i + 1))) InvalidFixedBits
+    ∷ checkAt i (eqb (byte p i) captionsId) WrongMagic
+    ∷ checkAt (i + 1) (allSet xE0 (byte p (i + 1))) InvalidFixedBits
     ∷ sizeCheck p (i + captionsSize p i)
     ∷ []
 

@@ -11,24 +11,27 @@ pub fn test_captions(packet: &[u8], present: bool, at: u8) -> Tested
     ensures { λ r. ⌜ r ≡ captionsTested (now (packet .entry)) present at ⌝ }
 {
     if !present {
-        return Tested::alone(Answer::done(0));
+        return Tested::alone(Answer::done(0), 0);
     }
     let size = packet.len();
     let i = at as usize;
     if size < i + Packet::SECTION_HEAD_LEN {
-        return Tested::alone(Answer::length_mismatch(i + Packet::SECTION_HEAD_LEN, size));
+        return Tested::alone(
+            Answer::length_mismatch(i + Packet::SECTION_HEAD_LEN, size),
+            size,
+        );
     }
     if packet[i] != Packet::CC_DATA_ID {
-        return Tested::alone(Answer::WRONG_MAGIC);
+        return Tested::alone(Answer::WRONG_MAGIC, i);
     }
     let header = packet[i + 1];
     // All of E0 is set.
     if header / 32 % 8 != 7 {
-        return Tested::alone(Answer::INVALID_FIXED_BITS);
+        return Tested::alone(Answer::INVALID_FIXED_BITS, i + 1);
     }
     let length = Packet::SECTION_HEAD_LEN + Packet::TRIPLET_LEN * (header % 32) as usize;
     if size < i + length {
-        return Tested::alone(Answer::length_mismatch(i + length, size));
+        return Tested::alone(Answer::length_mismatch(i + length, size), size);
     }
     Tested::sized(length)
 }

@@ -9,7 +9,8 @@ use lib.ListN.{length}
 use Rattle.basis.proofs.Verdicts.{andThen, verdict-append}
 use Rattle.basis.specs.Answer.{ChecksumFailed, LengthMismatch, SequenceCountMismatch, WrongMagic, done, refused}
 use Rattle.basis.specs.Bytes.{byte}
-use Rattle.basis.specs.Check.{Verdict, answer, verdict}
+use Rattle.basis.specs.Check.{Verdict, verdict}
+use Rattle.basis.specs.Code.{outcome, outcomeAt}
 use Rattle.values.specs.Sequence.{sequenceOf}
 use Rattle.values.specs.Layout.{footerSize}
 use Rattle.read_closing.specs.Closing.{
@@ -25,22 +26,22 @@ use Rattle.read_closing.specs.Code.{closingRead, footerRead}
 
 -- rule 9
 module _ (p : List ℕ) (sequence i : ℕ) where
-  pub footer-short : length p < i + footerSize → refused (LengthMismatch (i + footerSize) (length p)) ≡ footerRead p sequence i
+  pub footer-short : length p < i + footerSize → outcomeAt (refused (LengthMismatch (i + footerSize) (length p))) (length p) ≡ footerRead p sequence i
   unfolding footerRead
   footer-short a = simp (lt-leb _ _ a)
 
   module _ (long : i + footerSize ≤ length p) where
     pub other-sequence : (sequenceOf (byte p (i + 1)) (byte p (i + 2)) ≡ sequence → ⊥)
-        → refused SequenceCountMismatch ≡ footerRead p sequence i
+        → outcomeAt (refused SequenceCountMismatch) (i + 1) ≡ footerRead p sequence i
     unfolding footerRead
     other-sequence a = simp (le-leb _ _ long, ne-eqb _ _ a)
 
     module _ (same : sequenceOf (byte p (i + 1)) (byte p (i + 2)) ≡ sequence) where
-      pub other-checksum : (byte p (i + 3) ≡ checksumOf p → ⊥) → refused ChecksumFailed ≡ footerRead p sequence i
+      pub other-checksum : (byte p (i + 3) ≡ checksumOf p → ⊥) → outcomeAt (refused ChecksumFailed) (i + 3) ≡ footerRead p sequence i
       unfolding footerRead
       other-checksum a = simp (le-leb _ _ long, eq-eqb _ _ same, ne-eqb _ _ a)
 
-      pub footer-whole : byte p (i + 3) ≡ checksumOf p → done 0 ≡ footerRead p sequence i
+      pub footer-whole : byte p (i + 3) ≡ checksumOf p → outcomeAt (done 0) 0 ≡ footerRead p sequence i
       unfolding footerRead
       footer-whole a = simp (le-leb _ _ long, eq-eqb _ _ same, eq-eqb _ _ a)
 
@@ -53,10 +54,10 @@ pub record Reached (p : List ℕ) (sequence at i : ℕ) : Type 0 where
   pub turns : ℕ
   pub inside : i + 2 ≤ length p
   pub enough : length p ≤ turns + i
-  pub left : answer (ahead p sequence turns i) 0 ≡ closingRead p sequence at
+  pub left : outcome (ahead p sequence turns i) ≡ closingRead p sequence at
 
 module _ (p : List ℕ) (sequence at : ℕ) where
-  pub nothing-there : length p < at + 2 → refused (LengthMismatch (at + 2) (length p)) ≡ closingRead p sequence at
+  pub nothing-there : length p < at + 2 → outcomeAt (refused (LengthMismatch (at + 2) (length p))) (length p) ≡ closingRead p sequence at
   unfolding closingRead closingChecks
   nothing-there a = simp (lt-leb _ _ a)
 
@@ -87,29 +88,29 @@ module _ (p : List ℕ) (sequence at : ℕ) where
   module _ (i : ℕ) (r : Reached p sequence at i) where
     pub footer-reached : byte p i ≡ 0x74 → footerRead p sequence i ≡ closingRead p sequence at
     unfolding footerRead
-    footer-reached id = ap (λ (v : Verdict). answer v 0) (sym (ahead-footer i (r .turns) (omega arith) id)) ∙ r .left
+    footer-reached id = ap outcome (sym (ahead-footer i (r .turns) (omega arith) id)) ∙ r .left
 
     module _ (other : byte p i ≡ 0x74 → ⊥) where
       as-turn :
-          answer (andThen (verdict (futureChecksAt p i)) (ahead p sequence (r .turns - 1) (i + 2 + byte p (i + 1)))) 0
+          outcome (andThen (verdict (futureChecksAt p i)) (ahead p sequence (r .turns - 1) (i + 2 + byte p (i + 1))))
           ≡ closingRead p sequence at
-      as-turn = ap (λ (v : Verdict). answer v 0) (sym (ahead-future i (r .turns) (omega arith) other)) ∙ r .left
+      as-turn = ap outcome (sym (ahead-future i (r .turns) (omega arith) other)) ∙ r .left
 
-      pub id-low : byte p i < 0x75 → refused WrongMagic ≡ closingRead p sequence at
+      pub id-low : byte p i < 0x75 → outcomeAt (refused WrongMagic) i ≡ closingRead p sequence at
       id-low a = simp (lt-leb _ _ a) at as-turn
 
       module _ (low : 0x75 ≤ byte p i) where
-        pub id-high : 0xEF < byte p i → refused WrongMagic ≡ closingRead p sequence at
+        pub id-high : 0xEF < byte p i → outcomeAt (refused WrongMagic) i ≡ closingRead p sequence at
         id-high a = simp (le-leb _ _ low, lt-leb _ _ a) at as-turn
 
         module _ (high : byte p i ≤ 0xEF) where
           pub future-cut : length p < i + 1 + byte p (i + 1)
-              → refused (LengthMismatch (i + 1 + byte p (i + 1)) (length p)) ≡ closingRead p sequence at
+              → outcomeAt (refused (LengthMismatch (i + 1 + byte p (i + 1)) (length p))) (length p) ≡ closingRead p sequence at
           future-cut a = simp (le-leb _ _ low, le-leb _ _ high, lt-leb _ _ a) at as-turn
 
           module _ (fits : i + 1 + byte p (i + 1) ≤ length p) where
             pub nothing-behind : length p < i + 2 + byte p (i + 1) + 2
-                → refused (LengthMismatch (i + 2 + byte p (i + 1) + 2) (length p)) ≡ closingRead p sequence at
+                → outcomeAt (refused (LengthMismatch (i + 2 + byte p (i + 1) + 2) (length p))) (length p) ≡ closingRead p sequence at
             nothing-behind a = simp (le-leb _ _ low, le-leb _ _ high, le-leb _ _ fits, lt-leb _ _ a) at as-turn
 
             pub goes-on : i + 2 + byte p (i + 1) + 2 ≤ length p → Reached p sequence at (i + 2 + byte p (i + 1))

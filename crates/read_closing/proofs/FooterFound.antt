@@ -12,7 +12,7 @@ use lib.ListN.{length}
 use Rattle.basis.proofs.Verdicts.{and-second, kept-first, kept-rest, verdict-append}
 use Rattle.basis.specs.Answer.{ChecksumFailed, SequenceCountMismatch, WrongMagic}
 use Rattle.basis.specs.Bytes.{byte}
-use Rattle.basis.specs.Check.{Check, check, clear, verdict, sizeCheck}
+use Rattle.basis.specs.Check.{Check, checkAt, clear, verdict, sizeCheck}
 use Rattle.values.specs.Sequence.{sequenceOf}
 use Rattle.values.specs.Layout.{footerSize}
 use Rattle.read_closing.specs.Closing.{checksumOf, closingChecks, footerFrom, futureChecks, futureChecksAt, futureLength}
@@ -20,7 +20,7 @@ use Rattle.read_closing.specs.Closing.{checksumOf, closingChecks, footer
 -- the two that are kept of a future section: the size of what stands behind it, and the checks from there on
 module _ (p : List ℕ) (i : ℕ) (behind : List Check) (h : verdict (futureChecksAt p i ++ behind) ≡ clear) where
   abbrev ids : Check
-  ids = check (leb 0x75 (byte p i) && leb (byte p i) 0xEF) WrongMagic
+  ids = checkAt i (leb 0x75 (byte p i) && leb (byte p i) 0xEF) WrongMagic
 
   abbrev inside : Check
   inside = sizeCheck p (i + 1 + futureLength p i)
@@ -61,8 +61,8 @@ unfolding closingChecks
 checksum-kept p sequence i h =
     let f : ℕ = footerFrom (length p) p i in
     let size : Check = sizeCheck p (f + footerSize) in
-    let same : Check = check (eqb (sequenceOf (byte p (f + 1)) (byte p (f + 2))) sequence) SequenceCountMismatch in
-    let sum : Check = check (eqb (byte p (f + 3)) (checksumOf p)) ChecksumFailed in
+    let same : Check = checkAt (f + 1) (eqb (sequenceOf (byte p (f + 1)) (byte p (f + 2))) sequence) SequenceCountMismatch in
+    let sum : Check = checkAt (f + 3) (eqb (byte p (f + 3)) (checksumOf p)) ChecksumFailed in
     let future : List Check = futureChecks (length p) p i in
     let footer : verdict (size ∷ same ∷ sum ∷ []) ≡ clear =
     and-second (verdict future) (verdict (size ∷ same ∷ sum ∷ []))

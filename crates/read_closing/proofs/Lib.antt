@@ -1,3 +1,4 @@
 pub mod ClosingReads
 pub mod FooterFound
 pub mod Checksums
+pub mod ClosingPlaces

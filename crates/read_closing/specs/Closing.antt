@@ -6,7 +6,7 @@ use lib.Dec.{eqb, leb}
 use lib.ListN.{length, take}
 use Rattle.basis.specs.Answer.{WrongMagic, SequenceCountMismatch, ChecksumFailed}
 use Rattle.basis.specs.Bytes.{byte}
-use Rattle.basis.specs.Check.{Check, check, sizeCheck}
+use Rattle.basis.specs.Check.{Check, checkAt, sizeCheck}
 use Rattle.values.specs.Checksum.{total, negative}
 use Rattle.values.specs.Layout.{footerId, footerSize, sectionHeadSize}
 use Rattle.values.specs.Sequence.{sequenceOf}
@@ -18,7 +18,7 @@ futureLength p i = byte p (i + 1)
 -- 8.2: the id lies in 75 to EF; 8.3: n is at least i+1+L; i moves on by 2+L, and 8.4: n is at least the new i+2
 abbrev pub futureChecksAt : List ℕ → ℕ → List Check
 futureChecksAt p i =
-    check (leb 0x75 (byte p i) && leb (byte p i) 0xEF) WrongMagic
+    checkAt i (leb 0x75 (byte p i) && leb (byte p i) 0xEF) WrongMagic
     ∷ sizeCheck p (i + 1 + futureLength p i)
     ∷ sizeCheck p (i + sectionHeadSize + futureLength p i + sectionHeadSize)
     ∷ []
@@ -42,8 +42,8 @@ checksumOf p = negative (total (take (length p - 1) p))
 abbrev pub footerChecks : List ℕ → ℕ → ℕ → List Check
 footerChecks p sequence i =
     sizeCheck p (i + footerSize)
-    ∷ check (eqb (sequenceOf (byte p (i + 1)) (byte p (i + 2))) sequence) SequenceCountMismatch
-    ∷ check (eqb (byte p (i + 3)) (checksumOf p)) ChecksumFailed
+    ∷ checkAt (i + 1) (eqb (sequenceOf (byte p (i + 1)) (byte p (i + 2))) sequence) SequenceCountMismatch
+    ∷ checkAt (i + 3) (eqb (byte p (i + 3)) (checksumOf p)) ChecksumFailed
     ∷ []
 
 -- 8.1: n is at least i+2; 8.2 to 8.4: the future sections; 9.1 to 9.3: the footer

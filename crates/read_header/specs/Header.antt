@@ -6,7 +6,7 @@ use lib.Dec.{eqb}
 use lib.ListN.{length}
 use Rattle.basis.specs.Answer.{LengthMismatch, WrongMagic, UnknownFramerate}
 use Rattle.basis.specs.Bytes.{byte}
-use Rattle.basis.specs.Check.{Check, check, sizeCheck}
+use Rattle.basis.specs.Check.{Check, checkAt, sizeCheck}
 use Rattle.values.specs.Flags.{flagsOf}
 use Rattle.basis.specs.Mask.{under, xF0}
 use Rattle.values.specs.Layout.{leastSize}
@@ -30,7 +30,7 @@ sequenceIn p = sequenceOf (byte p 5) (byte p 6)
 abbrev pub headerChecks : List ℕ → List Check
 headerChecks p =
     sizeCheck p leastSize
-    ∷ check (eqb (byte p 0) 0x96 && eqb (byte p 1) 0x69) WrongMagic
-    ∷ check (eqb (byte p 2) (length p)) (LengthMismatch (byte p 2) (length p))
-    ∷ check (rateOf p .present) UnknownFramerate
+    ∷ checkAt 0 (eqb (byte p 0) 0x96 && eqb (byte p 1) 0x69) WrongMagic
+    ∷ checkAt (length p) (eqb (byte p 2) (length p)) (LengthMismatch (byte p 2) (length p))
+    ∷ checkAt 3 (rateOf p .present) UnknownFramerate
     ∷ []

@@ -47,6 +47,7 @@ module _ (p : List ℕ) {header : Header} (header-is : header ≡ headerShown p)
           → _≡_ {A = Checked}
           (record {
             answer = answer;
+            place = 0;
             framerate = header .framerate;
             «time_code» = section .«time_code»;
             sequence = header .sequence;

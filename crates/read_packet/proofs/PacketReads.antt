@@ -25,7 +25,20 @@ use Rattle.values.specs.Layout.{leastSize, timeCodeSize}
 use Rattle.values.specs.Rate.{noRate}
 use Rattle.values.specs.Code.{noFlags}
 use Rattle.values_time.specs.Time.{timeAbsent}
-use Rattle.basis.specs.Check.{Check, Verdict, answer, broken, check, clear, ifClear, sizeCheck, sizeWhen, verdict, when}
+use Rattle.basis.specs.Check.{
+  Check,
+  Verdict,
+  answer,
+  broken,
+  checkAt,
+  clear,
+  ifClear,
+  placeOf,
+  sizeCheck,
+  sizeWhen,
+  verdict,
+  when,
+}
 use Rattle.basis.specs.Code.{sized, tested}
 use Rattle.read_captions.specs.Captions.{captionsChecks, captionsSize}
 use Rattle.read_captions.specs.Code.{captionsTested}
@@ -42,17 +55,17 @@ use Rattle.read_packet.specs.Code.{checkedRead, checkedShown, refusedChe
 use Rattle.read_packet.specs.declared.checked.Checked.{Checked}
 use Rattle.read_header.specs.declared.header.Header.{Header}
 use Rattle.read_time_code.specs.declared.time_code.TimeCodeSection.{TimeCodeSection}
-use Rattle.basis.specs.declared.answer.Answer.{Answer}
+use Rattle.basis.specs.declared.tested.Outcome.{Outcome}
 use Rattle.basis.specs.declared.tested.Tested.{Tested}
 
 -- what a verdict on a packet gives
 abbrev pub given : Verdict → ℕ → Checked → Checked
-given v length shown = ifClear v shown (refusedChecked (answer v length))
+given v length shown = ifClear v shown (refusedChecked (answer v length) (placeOf v))
 
 given-refused : (v : Verdict) (k length : ℕ) (shown : Checked) → eqb (answer v k .number) 0 ≡ false
-    → refusedChecked (answer v k) ≡ given v length shown
+    → refusedChecked (answer v k) (placeOf v) ≡ given v length shown
 given-refused clear k length shown h = absurd (true≢false h)
-given-refused (broken why) k length shown h = refl
+given-refused (broken rule) k length shown h = refl
 
 -- five lists of checks, one after the other
 five-parts : (a b c d e : List Check)
@@ -66,7 +79,7 @@ five-parts a b c d e =
 
 -- what each part gives, and what it shows where it is accepted
 abbrev pub headerShown : List ℕ → Header
-headerShown p = record { answer = done 0; framerate = rateOf p; flags = flagsIn p; sequence = sequenceIn p }
+headerShown p = record { answer = done 0; place = 0; framerate = rateOf p; flags = flagsIn p; sequence = sequenceIn p }
 
 abbrev pub timeCodeAsked : List ℕ → TimeCodeSection
 timeCodeAsked p = timeCodeRead p (flagsIn p .«time_code») timeCodeAt
@@ -75,6 +88,7 @@ abbrev pub timeCodeShown : List ℕ → TimeCodeSection
 timeCodeShown p =
     record {
       answer = done 0;
+      place = 0;
       «time_code» = timeCodeOf p (flagsIn p .«time_code») timeCodeAt;
       size = sizeWhen (flagsIn p .«time_code») timeCodeSize;
     }
@@ -88,7 +102,7 @@ servicesAsked p = servicesTested p (flagsIn p) (servicesAt p)
 abbrev pub servicesMoved : List ℕ → ℕ
 servicesMoved p = sizeWhen (flagsIn p .«svc_info») (servicesSize p (servicesAt p))
 
-abbrev pub closingAsked : List ℕ → Answer
+abbrev pub closingAsked : List ℕ → Outcome
 closingAsked p = closingRead p (sequenceIn p) (closingAt p)
 
 -- how far i moves on over a section: at most the section's largest size
@@ -118,6 +132,7 @@ module _ (p : List ℕ) where
   headed v =
       record {
         answer = answer v 0;
+        place = placeOf v;
         framerate = ifClear v (rateOf p) noRate;
         flags = ifClear v (flagsIn p) noFlags;
         sequence = ifClear v (sequenceIn p) 0;
@@ -127,6 +142,7 @@ module _ (p : List ℕ) where
   timed v =
       record {
         answer = answer v 0;
+        place = placeOf v;
         «time_code» = ifClear v (timeCodeOf p (flagsIn p .«time_code») timeCodeAt) timeAbsent;
         size = ifClear v (sizeWhen (flagsIn p .«time_code») timeCodeSize) 0;
       }
@@ -143,14 +159,14 @@ module _ (p : List ℕ) where
 
   -- a part that is refused, where what is left of the packet's verdict begins with it
   stops : (v w : Verdict) (k : ℕ) → verdict (packetChecks p) ≡ andThen v w
-      → eqb (answer v k .number) 0 ≡ false → refusedChecked (answer v k) ≡ checkedRead p
+      → eqb (answer v k .number) 0 ≡ false → refusedChecked (answer v k) (placeOf v) ≡ checkedRead p
   unfolding checkedRead
   stops v w k e h =
       given-refused v k (captionsLength p) (checkedShown p) h
       ∙ ap (λ (u : Verdict). given u (captionsLength p) (checkedShown p)) (sym (e ∙ refused-stays v w k h))
 
   pub header-refused : eqb (headerRead p .answer .number) 0 ≡ false
-      → refusedChecked (headerRead p .answer) ≡ checkedRead p
+      → refusedChecked (headerRead p .answer) (headerRead p .place) ≡ checkedRead p
   unfolding headerRead
   header-refused h = stops header _ 0 in-order h
 
@@ -169,7 +185,7 @@ module _ (p : List ℕ) where
         ∙ ap (λ (v : Verdict). andThen v (andThen timeCode (andThen captions (andThen services closing)))) header-clear
 
     pub time-code-refused : eqb (timeCodeAsked p .answer .number) 0 ≡ false
-        → refusedChecked (timeCodeAsked p .answer) ≡ checkedRead p
+        → refusedChecked (timeCodeAsked p .answer) (timeCodeAsked p .place) ≡ checkedRead p
     unfolding timeCodeRead
     time-code-refused h = stops timeCode _ _ behind-header h
 
@@ -208,7 +224,7 @@ module _ (p : List ℕ) where
         ∙ ap (λ (v : Verdict). andThen v (andThen captions (andThen services closing))) (time-code-clear time-code-done)
 
     pub captions-refused : eqb (captionsAsked p .answer .number) 0 ≡ false
-        → refusedChecked (captionsAsked p .answer) ≡ checkedRead p
+        → refusedChecked (captionsAsked p .answer) (captionsAsked p .place) ≡ checkedRead p
     unfolding captionsTested
     captions-refused h = stops captions _ _ behind-time-code h
 
@@ -218,7 +234,7 @@ module _ (p : List ℕ) where
           behind-time-code ∙ ap (λ (v : Verdict). andThen v (andThen services closing)) (captions-clear captions-done)
 
       pub services-refused : eqb (servicesAsked p .answer .number) 0 ≡ false
-          → refusedChecked (servicesAsked p .answer) ≡ checkedRead p
+          → refusedChecked (servicesAsked p .answer) (servicesAsked p .place) ≡ checkedRead p
       unfolding servicesTested
       services-refused h = stops services _ _ behind-captions h
 
@@ -226,11 +242,12 @@ module _ (p : List ℕ) where
         behind-services : verdict (packetChecks p) ≡ closing
         behind-services = behind-captions ∙ ap (λ (v : Verdict). andThen v closing) (services-clear services-done)
 
-        pub closing-refused : eqb (closingAsked p .number) 0 ≡ false → refusedChecked (closingAsked p) ≡ checkedRead p
+        pub closing-refused : eqb (closingAsked p .answer .number) 0 ≡ false
+            → refusedChecked (closingAsked p .answer) (closingAsked p .place) ≡ checkedRead p
         unfolding closingRead
         closing-refused h = stops closing clear 0 (behind-services ∙ sym (refused-stays closing clear 0 h)) h
 
-        pub packet-whole : eqb (closingAsked p .number) 0 ≡ true → checkedShown p ≡ checkedRead p
+        pub packet-whole : eqb (closingAsked p .answer .number) 0 ≡ true → checkedShown p ≡ checkedRead p
         unfolding closingRead checkedRead
         packet-whole h =
             ap (λ (v : Verdict). given v (captionsLength p) (checkedShown p))
@@ -239,9 +256,9 @@ module _ (p : List ℕ) where
   -- the parts of an accepted packet: its size is the one that it says, and captions, services and footer are clear
   pub size-of-packet : verdict (packetChecks p) ≡ clear → byte p 2 ≡ length p
   size-of-packet h =
-      let size : Check = check (eqb (byte p 2) (length p)) (LengthMismatch (byte p 2) (length p)) in
-      let rate : List Check = check (rateOf p .present) UnknownFramerate ∷ [] in
-      let magic : Check = check (eqb (byte p 0) 0x96 && eqb (byte p 1) 0x69) WrongMagic in
+      let size : Check = checkAt (length p) (eqb (byte p 2) (length p)) (LengthMismatch (byte p 2) (length p)) in
+      let rate : List Check = checkAt 3 (rateOf p .present) UnknownFramerate ∷ [] in
+      let magic : Check = checkAt 0 (eqb (byte p 0) 0x96 && eqb (byte p 1) 0x69) WrongMagic in
       eqb-true _ _
       (kept-first size rate
       (kept-rest magic (size ∷ rate)

@@ -12,10 +12,11 @@ use values::MaybeFramerate;
 use values::Packet;
 use values_time::MaybeTimeCode;
 
-// What reading gives: beside a refusal, nothing but the answer. The list is left for the reader to make when nothing is
+// What reading gives: beside a refusal, nothing but the answer and the place. The list is left for the reader to make when nothing is
 // left that could refuse, so that no refusal and no packet without services copies one.
 pub struct Checked {
     pub answer: Answer,
+    pub place: usize,
     pub framerate: MaybeFramerate,
     pub time_code: MaybeTimeCode,
     pub sequence: u16,
@@ -25,12 +26,13 @@ pub struct Checked {
 }
 
 impl Checked {
-    // Nothing but the answer.
-    fn refused(answer: Answer) -> Self
-        ensures { λ r. ⌜ r ≡ refusedChecked answer ⌝ }
+    // Nothing but the answer and the place.
+    fn refused(answer: Answer, place: usize) -> Self
+        ensures { λ r. ⌜ r ≡ refusedChecked answer place ⌝ }
     {
         Self {
             answer,
+            place,
             framerate: MaybeFramerate::ABSENT,
             time_code: MaybeTimeCode::ABSENT,
             sequence: 0,
@@ -47,35 +49,37 @@ impl Checked {
         let header = Header::parse(packet);
         let header_answer = header.answer;
         if !header_answer.is_done() {
-            return Self::refused(header_answer);
+            return Self::refused(header_answer, header.place);
         }
         let flags = header.flags;
         let timed = TimeCodeSection::parse(packet, flags.time_code, Packet::HEADER_LEN as u8);
         let time_code_answer = timed.answer;
         if !time_code_answer.is_done() {
-            return Self::refused(time_code_answer);
+            return Self::refused(time_code_answer, timed.place);
         }
         let captions_at = Packet::HEADER_LEN + timed.size;
         let captions = test_captions(packet, flags.cc_data, captions_at as u8);
         let captions_answer = captions.answer;
         if !captions_answer.is_done() {
-            return Self::refused(captions_answer);
+            return Self::refused(captions_answer, captions.place);
         }
         let services_at = captions_at + captions.size;
         let services = test_services(packet, flags, services_at as u8);
         let services_answer = services.answer;
         if !services_answer.is_done() {
-            return Self::refused(services_answer);
+            return Self::refused(services_answer, services.place);
         }
         let closing_at = services_at + services.size;
-        let closing_answer = test_closing(packet, header.sequence, closing_at as u8);
+        let closing = test_closing(packet, header.sequence, closing_at as u8);
+        let closing_answer = closing.answer;
         if !closing_answer.is_done() {
-            return Self::refused(closing_answer);
+            return Self::refused(closing_answer, closing.place);
         }
         let framerate = header.framerate;
         let time_code = timed.time_code;
         Self {
             answer: Answer::done(captions.size),
+            place: 0,
             framerate,
             time_code,
             sequence: header.sequence,

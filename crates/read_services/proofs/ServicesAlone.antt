@@ -10,10 +10,21 @@ use borrow.Author.Tests.{eq-eqb, le-leb}
 use lib.Dec.{eqb}
 use lib.ListN.{length}
 use Rattle.basis.proofs.Bools.{and-left, and-right, beq-same}
-use Rattle.basis.proofs.Verdicts.{and-clear, and-first, and-second, andThen, kept-first, kept-rest, verdict-append}
+use Rattle.basis.proofs.Verdicts.{
+  and-clear,
+  and-first,
+  and-second,
+  andThen,
+  kept-first,
+  kept-rest,
+  moved-kept,
+  movedVerdict,
+  verdict-append,
+  verdict-moved,
+}
 use Rattle.basis.specs.Answer.{ServiceFlagsMismatched, WrongMagic}
 use Rattle.basis.specs.Bytes.{byte}
-use Rattle.basis.specs.Check.{Check, check, clear, verdict, sizeCheck}
+use Rattle.basis.specs.Check.{Check, checkAt, clear, moved, verdict, sizeCheck}
 use Rattle.values.specs.Layout.{servicesId}
 use Rattle.service_entries.specs.Entries.{sectionChecks}
 use Rattle.service_list.specs.Section.{listOf}
@@ -52,36 +63,39 @@ module _ (p : List ℕ) (f : Flags) (i : ℕ) where
   own = servicesPart p i
 
   abbrev flagsCheck : Check
-  flagsCheck = check (sameFlags (listOf own) f) ServiceFlagsMismatched
+  flagsCheck = checkAt 4 (sameFlags (listOf own) f) ServiceFlagsMismatched
 
   pub alone : i + servicesSize p i ≤ length p → byte p i ≡ servicesId → FlagsOf f (listOf own)
-      → verdict (servicesChecks p f i) ≡ verdict (sectionChecks own)
+      → verdict (servicesChecks p f i) ≡ movedVerdict i (verdict (sectionChecks own))
   alone fits id flags =
       simp (
         le-leb (i + 2) (length p) (omega (arith, fits)),
         eq-eqb _ _ id,
         le-leb (i + servicesSize p i) (length p) fits,
       )
-      (verdict-append (sectionChecks own) (flagsCheck ∷ [])
-      ∙ ap (andThen (verdict (sectionChecks own))) (rw (agree (listOf own) f flags))
-      ∙ and-clear (verdict (sectionChecks own)))
+      (verdict-append (moved i (sectionChecks own)) (flagsCheck ∷ [])
+      ∙ ap (andThen (verdict (moved i (sectionChecks own)))) (rw (agree (listOf own) f flags))
+      ∙ and-clear (verdict (moved i (sectionChecks own))))
+      ∙ verdict-moved i (sectionChecks own)
 
   module _ (kept : verdict (servicesChecks p f i) ≡ clear) where
     abbrev behind : List Check
-    behind = sectionChecks own ++ flagsCheck ∷ []
+    behind = moved i (sectionChecks own) ++ flagsCheck ∷ []
 
-    own-and-flags : andThen (verdict (sectionChecks own)) (verdict (flagsCheck ∷ [])) ≡ clear
+    own-and-flags : andThen (verdict (moved i (sectionChecks own))) (verdict (flagsCheck ∷ [])) ≡ clear
     own-and-flags =
         let two : Check = sizeCheck p (i + 2) in
-        let id : Check = check (eqb (byte p i) servicesId) WrongMagic in
+        let id : Check = checkAt i (eqb (byte p i) servicesId) WrongMagic in
         let whole : Check = sizeCheck p (i + servicesSize p i) in
-        sym (verdict-append (sectionChecks own) (flagsCheck ∷ []))
+        sym (verdict-append (moved i (sectionChecks own)) (flagsCheck ∷ []))
         ∙ kept-rest whole behind (kept-rest id (whole ∷ behind) (kept-rest two (id ∷ whole ∷ behind) kept))
 
     pub own-kept : verdict (sectionChecks own) ≡ clear
-    own-kept = and-first (verdict (sectionChecks own)) (verdict (flagsCheck ∷ [])) own-and-flags
+    own-kept =
+        moved-kept i (sectionChecks own)
+        (and-first (verdict (moved i (sectionChecks own))) (verdict (flagsCheck ∷ [])) own-and-flags)
 
     pub flags-kept : FlagsOf f (listOf own)
     flags-kept =
         agreed (listOf own) f
-        (kept-first flagsCheck [] (and-second (verdict (sectionChecks own)) (verdict (flagsCheck ∷ [])) own-and-flags))
+        (kept-first flagsCheck [] (and-second (verdict (moved i (sectionChecks own))) (verdict (flagsCheck ∷ [])) own-and-flags))

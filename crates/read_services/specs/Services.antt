@@ -5,7 +5,7 @@ use Prim.Native.Nat.{ℕ, _+_}
 use lib.Dec.{eqb}
 use Rattle.basis.specs.Answer.{WrongMagic, ServiceFlagsMismatched}
 use Rattle.basis.specs.Bytes.{byte, part}
-use Rattle.basis.specs.Check.{Check, check, sizeCheck}
+use Rattle.basis.specs.Check.{Check, checkAt, moved, sizeCheck}
 use Rattle.basis.specs.Mask.{under, x0F}
 use Rattle.values.specs.Layout.{sectionHeadSize, sectionLength, servicesId}
 use Rattle.service_entries.specs.Entries.{sectionChecks}
@@ -33,10 +33,10 @@ sameFlags l f =
 abbrev pub servicesChecks : List ℕ → Flags → ℕ → List Check
 servicesChecks p f i =
     sizeCheck p (i + sectionHeadSize)
-    ∷ check (eqb (byte p i) servicesId) WrongMagic
+    ∷ checkAt i (eqb (byte p i) servicesId) WrongMagic
     ∷ sizeCheck p (i + servicesSize p i)
-    ∷ sectionChecks (servicesPart p i)
-    ++ check (sameFlags (listOf (servicesPart p i)) f) ServiceFlagsMismatched ∷ []
+    ∷ moved i (sectionChecks (servicesPart p i))
+    ++ checkAt 4 (sameFlags (listOf (servicesPart p i)) f) ServiceFlagsMismatched ∷ []
 
 -- the section's list, absent where there is no section
 abbrev pub servicesOf : List ℕ → Bool → ℕ → MaybeServiceInfo

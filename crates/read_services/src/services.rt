@@ -16,27 +16,31 @@ pub fn test_services(packet: &[u8], flags: Flags, at: u8) -> Tested
     ensures { λ r. ⌜ r ≡ servicesTested (now (packet .entry)) flags at ⌝ }
 {
     if !flags.svc_info {
-        return Tested::alone(Answer::done(0));
+        return Tested::alone(Answer::done(0), 0);
     }
     let size = packet.len();
     let i = at as usize;
     if size < i + Packet::SECTION_HEAD_LEN {
-        return Tested::alone(Answer::length_mismatch(i + Packet::SECTION_HEAD_LEN, size));
+        return Tested::alone(
+            Answer::length_mismatch(i + Packet::SECTION_HEAD_LEN, size),
+            size,
+        );
     }
     if packet[i] != Packet::SVC_INFO_ID {
-        return Tested::alone(Answer::WRONG_MAGIC);
+        return Tested::alone(Answer::WRONG_MAGIC, i);
     }
     let header = packet[i + 1];
     let length = Packet::SECTION_HEAD_LEN + Packet::SECTION_ENTRY_LEN * (header % 16) as usize;
     if size < i + length {
-        return Tested::alone(Answer::length_mismatch(i + length, size));
+        return Tested::alone(Answer::length_mismatch(i + length, size), size);
     }
-    let answer = test_section(&packet[i..i + length]);
+    let section = test_section(&packet[i..i + length]);
+    let answer = section.answer;
     if !answer.is_done() {
-        return Tested::alone(answer);
+        return Tested::alone(answer, i + section.place);
     }
     if !same_flags(header, flags) {
-        return Tested::alone(Answer::SERVICE_FLAGS_MISMATCHED);
+        return Tested::alone(Answer::SERVICE_FLAGS_MISMATCHED, 4);
     }
     Tested::sized(length)
 }

@@ -5,7 +5,7 @@ use Prim.Native.Nat.{ℕ, _+_}
 use lib.Dec.{eqb}
 use Rattle.basis.specs.Answer.{WrongMagic}
 use Rattle.basis.specs.Bytes.{byte}
-use Rattle.basis.specs.Check.{Check, check, sizeCheck}
+use Rattle.basis.specs.Check.{Check, checkAt, moved, sizeCheck}
 use Rattle.values.specs.Layout.{timeCodeId, timeCodeSize}
 use Rattle.values_time.specs.Time.{timeChecks, timeOf, timePresent, timeAbsent}
 use Rattle.values_time.specs.declared.time.MaybeTimeCode.{MaybeTimeCode}
@@ -19,8 +19,8 @@ ofFour f p i = f (byte p (i + 1)) (byte p (i + 2)) (byte p (i + 3)) (byte p (i +
 abbrev pub timeCodeChecks : List ℕ → ℕ → List Check
 timeCodeChecks p i =
     sizeCheck p (i + timeCodeSize)
-    ∷ check (eqb (byte p i) timeCodeId) WrongMagic
-    ∷ ofFour timeChecks p i
+    ∷ checkAt i (eqb (byte p i) timeCodeId) WrongMagic
+    ∷ moved (i + 1) (ofFour timeChecks p i)
 
 -- what the four bytes say
 abbrev pub timeCodeIn : List ℕ → ℕ → TimeCode

@@ -9,20 +9,22 @@ use values::Packet;
 use values_time::MaybeTimeCode;
 use values_time::TimeCode;
 
-// What reading gives: beside a refusal, no time code. The size is how far a reader moves on: 0 without a time code.
+// What reading gives: beside a refusal and its place, no time code. The size is how far a reader moves on: 0 without a time code.
 pub struct TimeCodeSection {
     pub answer: Answer,
+    pub place: usize,
     pub time_code: MaybeTimeCode,
     pub size: usize,
 }
 
 impl TimeCodeSection {
     // No time code, with this answer.
-    fn without(answer: Answer) -> Self
-        ensures { λ r. ⌜ r ≡ noTimeCode answer ⌝ }
+    fn without(answer: Answer, place: usize) -> Self
+        ensures { λ r. ⌜ r ≡ noTimeCode answer place ⌝ }
     {
         Self {
             answer,
+            place,
             time_code: MaybeTimeCode::ABSENT,
             size: 0,
         }
@@ -33,24 +35,28 @@ impl TimeCodeSection {
         ensures { λ r. ⌜ r ≡ timeCodeRead (now (packet .entry)) present at ⌝ }
     {
         if !present {
-            return Self::without(Answer::done(0));
+            return Self::without(Answer::done(0), 0);
         }
         let size = packet.len();
         let i = at as usize;
         if size < i + Packet::TIME_CODE_LEN {
-            return Self::without(Answer::length_mismatch(i + Packet::TIME_CODE_LEN, size));
+            return Self::without(
+                Answer::length_mismatch(i + Packet::TIME_CODE_LEN, size),
+                size,
+            );
         }
         if packet[i] != Packet::TIME_CODE_ID {
-            return Self::without(Answer::WRONG_MAGIC);
+            return Self::without(Answer::WRONG_MAGIC, i);
         }
         let read = TimeCode::parse(four_behind(packet, i));
         let answer = read.answer;
         if !answer.is_done() {
-            return Self::without(answer);
+            return Self::without(answer, i + 1 + read.place);
         }
         let time_code = read.time_code;
         Self {
             answer: Answer::done(0),
+            place: 0,
             time_code: MaybeTimeCode {
                 present: true,
                 time_code,

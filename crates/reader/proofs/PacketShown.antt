@@ -10,7 +10,7 @@ use Rattle.basis.proofs.Masks.{masks}
 use Rattle.basis.proofs.Verdicts.{done-clear, done-value, when-there}
 use Rattle.basis.specs.Answer.{done}
 use Rattle.basis.specs.Bytes.{byte}
-use Rattle.basis.specs.Check.{Verdict, answer, broken, clear, ifClear, verdict}
+use Rattle.basis.specs.Check.{Verdict, answer, broken, clear, ifClear, placeOf, verdict}
 use Rattle.read_header.specs.Header.{flagsIn}
 use Rattle.read_services.specs.Services.{servicesChecks}
 use Rattle.read_packet.proofs.PacketReads.{given, services-of-packet}
@@ -23,32 +23,46 @@ use Rattle.reader.specs.declared.parser.CDPParser.{CDPParser}
 use Rattle.read_packet.specs.declared.checked.Checked.{Checked}
 use Rattle.values.specs.declared.flags.Flags.{Flags}
 
--- a packet before its list is made has the same answer
+-- a packet before its list is made has the same answer, at the same place
 given-answer : (v : Verdict) (length : ℕ) (shown : Checked) → shown .answer ≡ done length
     → given v length shown .answer ≡ answer v length
 given-answer clear length shown e = e
-given-answer (broken why) length shown e = refl
+given-answer (broken rule) length shown e = refl
+
+given-place : (v : Verdict) (length : ℕ) (shown : Checked) → shown .place ≡ 0 → given v length shown .place ≡ placeOf v
+given-place clear length shown e = e
+given-place (broken rule) length shown e = refl
 
 -- a refused packet shows what a new reader does
 none : (v : Verdict) (length : ℕ) (s : CDPParser) (at : ℕ) → eqb (answer v length .number) 0 ≡ false
-    → _≡_ {A = PacketRead} (refusedPacket (answer v length))
-    (record { answer = answer v length; shown = ifClear v s freshReader; «captions_at» = ifClear v at 0 })
+    → _≡_ {A = PacketRead} (refusedPacket (answer v length) (placeOf v))
+    (record {
+      answer = answer v length;
+      place = placeOf v;
+      shown = ifClear v s freshReader;
+      «captions_at» = ifClear v at 0;
+    })
 none clear length s at h = absurd (true≢false h)
-none (broken why) length s at h = refl
+none (broken rule) length s at h = refl
 
 module _ (p : List ℕ) where
   pub checks-answer : checkedRead p .answer ≡ packetRead p .answer
   unfolding packetRead checkedRead
   checks-answer = given-answer (verdict (packetChecks p)) (captionsLength p) (checkedShown p) refl
 
+  pub checks-place : checkedRead p .place ≡ packetRead p .place
+  unfolding packetRead checkedRead
+  checks-place = given-place (verdict (packetChecks p)) (captionsLength p) (checkedShown p) refl
+
   pub accepts : eqb (packetRead p .answer .number) 0 ≡ true → checkedRead p ≡ checkedShown p
   unfolding packetRead checkedRead
   accepts h =
       done-value (verdict (packetChecks p)) (captionsLength p) (checkedShown p)
-      (refusedChecked (answer (verdict (packetChecks p)) (captionsLength p))) h
+      (refusedChecked (answer (verdict (packetChecks p)) (captionsLength p)) (placeOf (verdict (packetChecks p)))) h
 
   -- a packet's answer decides what it shows
-  pub none-shown : eqb (packetRead p .answer .number) 0 ≡ false → refusedPacket (packetRead p .answer) ≡ packetRead p
+  pub none-shown : eqb (packetRead p .answer .number) 0 ≡ false
+      → refusedPacket (packetRead p .answer) (packetRead p .place) ≡ packetRead p
   unfolding packetRead
   none-shown h = none (verdict (packetChecks p)) (captionsLength p) (shownBy p) (captionsAt p) h
 
@@ -57,7 +71,8 @@ module _ (p : List ℕ) where
   packet-clear h = done-clear (verdict (packetChecks p)) (captionsLength p) h
 
   pub all-shown : eqb (packetRead p .answer .number) 0 ≡ true
-      → _≡_ {A = PacketRead} (record { answer = done (captionsLength p); shown = shownBy p; «captions_at» = captionsAt p })
+      → _≡_ {A = PacketRead}
+      (record { answer = done (captionsLength p); place = 0; shown = shownBy p; «captions_at» = captionsAt p })
       (packetRead p)
   unfolding packetRead
   all-shown h =

@@ -11,7 +11,7 @@ use lib.ListN.{length}
 use Rattle.basis.proofs.Verdicts.{refused-shows, when-there}
 use Rattle.basis.specs.Answer.{BufferTooShort, done, refused}
 use Rattle.basis.specs.Bytes.{over}
-use Rattle.basis.specs.Check.{Verdict, answer, clear, ifClear, sizeWhen, verdict}
+use Rattle.basis.specs.Check.{Verdict, answer, clear, ifClear, placeOf, sizeWhen, verdict}
 use Rattle.read_captions.proofs.CaptionsReads.{captions-there, handed-long}
 use Rattle.read_captions.specs.Captions.{captionsChecks, captionsSize, handedOut}
 use Rattle.read_header.specs.Header.{flagsIn}
@@ -27,8 +27,8 @@ use Rattle.reader.specs.declared.parser.CDPParserRead.{CDPParserRead}
 use Rattle.basis.specs.declared.answer.Answer.{Answer}
 use Rattle.values.specs.Layout.{captionRoom}
 
-abbrev result : Answer → CDPParser → CDPParserRead
-result a s = record { answer = a; parser = s }
+abbrev result : ℕ → Answer → CDPParser → CDPParserRead
+result place a s = record { answer = a; place = place; parser = s }
 
 -- an accepted packet has all bytes of its captions, and as many are handed out as its answer says
 pub has-captions : (p : List ℕ) → verdict (packetChecks p) ≡ clear → flagsIn p .«cc_data» ≡ true
@@ -44,41 +44,42 @@ out-long p i false there = refl
 pub captions-long : (p : List ℕ) → verdict (packetChecks p) ≡ clear → length (captionsOf p) ≡ captionsLength p
 captions-long p h = out-long p (captionsAt p) (flagsIn p .«cc_data») (has-captions p h)
 
--- the answer and the state
+-- the answer, its place and the state
 module _ (s : CDPParser) (p : List ℕ) (room : ℕ) where
-  pub no-room : room < captionRoom → result (refused (BufferTooShort captionRoom room)) s ≡ read s p room
+  pub no-room : room < captionRoom → result 0 (refused (BufferTooShort captionRoom room)) s ≡ read s p room
   unfolding read
   no-room a = simp (lt-leb _ _ a)
 
   module _ (enough : captionRoom ≤ room) where
     -- the packet's own checks are left
-    as-packet : result (answer (verdict (packetChecks p)) (captionsLength p))
+    as-packet : result (placeOf (verdict (packetChecks p))) (answer (verdict (packetChecks p)) (captionsLength p))
         (ifClear (verdict (packetChecks p)) (shownBy p) (cleared s))
         ≡ read s p room
     unfolding read
     as-packet = simp (le-leb _ _ enough)
 
-    pub packet-refused : eqb (packetRead p .answer .number) 0 ≡ false
-        → result (packetRead p .answer) (cleared s) ≡ read s p room
+    pub packet-refused : {a : Answer} {place : ℕ} → a ≡ packetRead p .answer → place ≡ packetRead p .place
+        → eqb (packetRead p .answer .number) 0 ≡ false → result place a (cleared s) ≡ read s p room
     unfolding packetRead
-    packet-refused wrong =
-        refused-shows result (verdict (packetChecks p)) (captionsLength p) (captionsLength p)
-        (shownBy p) (cleared s) wrong
-        ∙ as-packet
+    packet-refused answered placed wrong =
+        let v : Verdict = verdict (packetChecks p) in
+        rw (answered, placed)
+        (refused-shows (result (placeOf v)) v (captionsLength p) (captionsLength p) (shownBy p) (cleared s) wrong ∙ as-packet)
 
     shown-accepted : eqb (packetRead p .answer .number) 0 ≡ true
-        → result (packetRead p .answer) (packetRead p .shown) ≡ read s p room
+        → result (packetRead p .place) (packetRead p .answer) (packetRead p .shown) ≡ read s p room
     unfolding packetRead
     shown-accepted right =
-        ap (λ (v : Verdict). result (answer v (captionsLength p)) (ifClear v (shownBy p) freshReader)) (packet-clear p right)
-        ∙ ap (λ (v : Verdict). result (answer v (captionsLength p)) (ifClear v (shownBy p) (cleared s)))
+        ap (λ (v : Verdict). result (placeOf v) (answer v (captionsLength p)) (ifClear v (shownBy p) freshReader))
+        (packet-clear p right)
+        ∙ ap (λ (v : Verdict). result (placeOf v) (answer v (captionsLength p)) (ifClear v (shownBy p) (cleared s)))
         (sym (packet-clear p right))
         ∙ as-packet
 
     pub packet-accepted : eqb (packetRead p .answer .number) 0 ≡ true
-        → result (done (captionsLength p)) (shownBy p) ≡ read s p room
+        → result 0 (done (captionsLength p)) (shownBy p) ≡ read s p room
     packet-accepted right =
-        ap (λ (r : PacketRead). result (r .answer) (r .shown)) (all-shown p right) ∙ shown-accepted right
+        ap (λ (r : PacketRead). result (r .place) (r .answer) (r .shown)) (all-shown p right) ∙ shown-accepted right
 
 -- the buffer
 module _ (p : List ℕ) (buffer : List ℕ) where

@@ -12,38 +12,41 @@ use lib.Dec.{eqb, leb}
 use lib.ListN.{drop, length, take}
 use lib.Seq.{take-at}
 use Rattle.basis.proofs.Verdicts.{done-clear, kept-rest, refused-not-done, refused-shows}
-use Rattle.basis.specs.Answer.{BufferTooShort}
 use Rattle.basis.specs.Bytes.{byte, over}
-use Rattle.basis.specs.Check.{Verdict, answer, broken, clear, ifClear, roomCheck, verdict}
+use Rattle.basis.specs.Check.{Verdict, answer, broken, clear, ifClear, placeOf, verdict}
 use Rattle.values.specs.Rate.{noRate}
 use Rattle.values.specs.Layout.{captionRoom}
 use Rattle.values_time.specs.Time.{timeAbsent}
 use Rattle.read_closing.proofs.FooterFound.{checksum-kept}
 use Rattle.read_closing.specs.Closing.{checksumOf}
 use Rattle.read_header.specs.Header.{sequenceIn}
-use Rattle.read_packet.proofs.Answers.{fine, not-eleven, packet-fine}
+use Rattle.read_packet.proofs.Answers.{not-eleven}
 use Rattle.read_packet.proofs.PacketReads.{closing-of-packet, size-of-packet}
 use Rattle.reader.proofs.ReaderReads.{captions-long}
 use Rattle.read_packet.specs.Packet.{captionsLength, closingAt, footerAt, packetChecks}
 use Rattle.reader.specs.Shown.{shownBy}
-use Rattle.reader.specs.Reader.{bufferAfter, captionsOf, cleared, read, readChecks}
+use Rattle.reader.specs.Reader.{bufferAfter, captionsCheck, captionsOf, cleared, read, readChecks}
 use Rattle.reader.specs.declared.parser.CDPParser.{CDPParser}
 use Rattle.reader.specs.declared.parser.CDPParserRead.{CDPParserRead}
 
 -- the definition, with rule 1's test and the packet's verdict as variables
 module _ (enough : Bool) (v : Verdict) (room length : ℕ) (shown s : CDPParser) where
   abbrev whole : Verdict
-  whole = cond enough v (broken (BufferTooShort captionRoom room))
+  whole = cond enough v (broken (captionsCheck room .rule))
 
   abbrev gives : CDPParserRead
-  gives = record { answer = answer whole length; parser = cond enough (ifClear whole shown (cleared s)) s }
+  gives =
+      record {
+        answer = answer whole length;
+        place = placeOf whole;
+        parser = cond enough (ifClear whole shown (cleared s)) s;
+      }
 
-eleven : (enough : Bool) (v : Verdict) (room length : ℕ) (shown s : CDPParser) → fine v ≡ true
-    → eqb (gives enough v room length shown s .answer .number) 11 ≡ true
+eleven : (enough : Bool) (v : Verdict) (room length : ℕ) (shown s : CDPParser)
+    → eqb (answer v length .number) 11 ≡ false → eqb (gives enough v room length shown s .answer .number) 11 ≡ true
     → gives enough v room length shown s .parser ≡ s
 eleven false v room length shown s f h = refl
-eleven true clear room length shown s f h = absurd (true≢false (sym h))
-eleven true (broken why) room length shown s f h = absurd (true≢false (sym h ∙ not-eleven why f))
+eleven true v room length shown s f h = absurd (true≢false (sym h ∙ f))
 
 clears : (enough : Bool) (v : Verdict) (room length : ℕ) (shown s : CDPParser)
     → eqb (gives enough v room length shown s .answer .number) 0 ≡ false
@@ -51,25 +54,25 @@ clears : (enough : Bool) (v : Verdict) (room length : ℕ) (shown s : CDPParser)
     → gives enough v room length shown s .parser ≡ cleared s
 clears false v room length shown s h k = absurd (true≢false k)
 clears true clear room length shown s h k = absurd (true≢false h)
-clears true (broken why) room length shown s h k = refl
+clears true (broken rule) room length shown s h k = refl
 
 refused-unless : (v : Verdict) (length : ℕ) → (v ≡ clear → ⊥) → eqb (answer v length .number) 0 ≡ false
 refused-unless clear length h = absurd (h refl)
-refused-unless (broken why) length h = refused-not-done why
+refused-unless (broken rule) length h = refused-not-done (rule .refusal)
 
 keeps : (enough : Bool) (v : Verdict) (room length : ℕ) (shown s : CDPParser)
     → eqb (gives enough v room length shown s .answer .number) 0 ≡ false
     → gives enough v room length shown s .parser .«service_info» ≡ s .«service_info»
 keeps false v room length shown s h = refl
 keeps true clear room length shown s h = absurd (true≢false h)
-keeps true (broken why) room length shown s h = refl
+keeps true (broken rule) room length shown s h = refl
 
 shows : (enough : Bool) (v : Verdict) (room length : ℕ) (shown s : CDPParser)
     → eqb (gives enough v room length shown s .answer .number) 0 ≡ true
     → gives enough v room length shown s .parser ≡ shown
 shows false v room length shown s h = absurd (true≢false (sym h))
 shows true clear room length shown s h = refl
-shows true (broken why) room length shown s h = absurd (true≢false (sym h ∙ refused-not-done why))
+shows true (broken rule) room length shown s h = absurd (true≢false (sym h ∙ refused-not-done (rule .refusal)))
 
 module _ (s : CDPParser) (p buffer : List ℕ) where
   -- what reading this packet with this caption buffer gives
@@ -89,7 +92,7 @@ module _ (s : CDPParser) (p buffer : List ℕ) where
   unfolding read
   eleven-changes-nothing h =
       eleven (leb captionRoom (length buffer)) (verdict (packetChecks p)) (length buffer) (captionsLength p)
-      (shownBy p) s (packet-fine p) (eq-eqb _ _ h)
+      (shownBy p) s (not-eleven p (captionsLength p)) (eq-eqb _ _ h)
 
   -- any other refusal clears rate, time code and sequence, and turns the caption-active mark off
   module _ (refusal : eqb (given .answer .number) 0 ≡ false) (other : eqb (given .answer .number) 11 ≡ false) where
@@ -123,7 +126,7 @@ module _ (s : CDPParser) (p buffer : List ℕ) where
   unfolding read
   long-refused a b =
       refused-unless (verdict (readChecks p (length buffer))) (captionsLength p)
-      (λ h. let s = size-of-packet p (kept-rest (roomCheck captionRoom (length buffer)) (packetChecks p) h) in
+      (λ h. let s = size-of-packet p (kept-rest (captionsCheck (length buffer)) (packetChecks p) h) in
       omega (arith, a, b, s))
 
   -- no refusal, 11 or another, changes the service list or whether there is one
@@ -142,7 +145,7 @@ module _ (s : CDPParser) (p buffer : List ℕ) where
         refused-unless (verdict (readChecks p (length buffer))) (captionsLength p)
         (λ h. wrong
         (checksum-kept p (sequenceIn p) (closingAt p)
-        (closing-of-packet p (kept-rest (roomCheck captionRoom (length buffer)) (packetChecks p) h))))
+        (closing-of-packet p (kept-rest (captionsCheck (length buffer)) (packetChecks p) h))))
 
     pub no-list-from-bad-checksum : given .parser .«service_info» ≡ s .«service_info»
     no-list-from-bad-checksum = list-only-from-accepted bad-checksum-refused
@@ -162,4 +165,4 @@ module _ (s : CDPParser) (p buffer : List ℕ) where
       ap
       (λ (v : Verdict). take (answer v (captionsLength p) .first) (ifClear v (over 0 (captionsOf p) buffer) buffer)) all
       ∙ take-at (captionsOf p) (drop (0 + length (captionsOf p)) buffer) (captionsLength p)
-      (captions-long p (kept-rest (roomCheck captionRoom (length buffer)) (packetChecks p) all))
+      (captions-long p (kept-rest (captionsCheck (length buffer)) (packetChecks p) all))

@@ -1,7 +1,7 @@
 -- Follows the code and not the rules: what reading a packet gives with no state and no buffer.
 use mathlib.Core.List.{List}
 use Prim.Native.Nat.{ℕ}
-use Rattle.basis.specs.Check.{verdict, answer, ifClear}
+use Rattle.basis.specs.Check.{verdict, answer, placeOf, ifClear}
 use Rattle.read_packet.specs.Packet.{captionsLength, captionsAt, packetChecks}
 use Rattle.reader.specs.declared.packet_read.PacketRead.{PacketRead}
 use Rattle.basis.specs.declared.answer.Answer.{Answer}
@@ -13,10 +13,11 @@ packetRead p =
     let v = verdict (packetChecks p) in
     record {
       answer = answer v (captionsLength p);
+      place = placeOf v;
       shown = ifClear v (shownBy p) freshReader;
       «captions_at» = ifClear v (captionsAt p) 0;
     }
 
 -- a refusal shows what a new reader does
-abbrev pub refusedPacket : Answer → PacketRead
-refusedPacket a = record { answer = a; shown = freshReader; «captions_at» = 0 }
+abbrev pub refusedPacket : Answer → ℕ → PacketRead
+refusedPacket a place = record { answer = a; place = place; shown = freshReader; «captions_at» = 0 }

@@ -4,8 +4,9 @@ use mathlib.Core.List.{List, [], _∷_}
 use Prim.Native.Nat.{ℕ}
 use lib.Dec.{leb}
 use lib.ListN.{length}
+use Rattle.basis.specs.Answer.{BufferTooShort}
 use Rattle.basis.specs.Bytes.{over}
-use Rattle.basis.specs.Check.{Check, roomCheck, verdict, answer, ifClear}
+use Rattle.basis.specs.Check.{Check, checkAt, verdict, answer, placeOf, ifClear}
 use Rattle.values.specs.Layout.{captionRoom}
 use Rattle.read_captions.specs.Captions.{handedOut}
 use Rattle.read_header.specs.Header.{flagsIn}
@@ -14,20 +15,25 @@ use Rattle.reader.specs.Shown.{freshReader, shownBy, withServices}
 use Rattle.reader.specs.declared.parser.CDPParser.{CDPParser}
 use Rattle.reader.specs.declared.parser.CDPParserRead.{CDPParserRead}
 
--- 1.1, and then rules 2 to 9
+-- 1.1: room for the most captions, or 11 with that and how many bytes were lent, at place 0
+abbrev pub captionsCheck : ℕ → Check
+captionsCheck room = checkAt 0 (leb captionRoom room) (BufferTooShort captionRoom room)
+
+-- and then rules 2 to 9
 abbrev pub readChecks : List ℕ → ℕ → List Check
-readChecks p room = roomCheck captionRoom room ∷ packetChecks p
+readChecks p room = captionsCheck room ∷ packetChecks p
 
 -- a refused packet: all as in a new reader, the caption-active mark too, and the service list as it was
 abbrev pub cleared : CDPParser → CDPParser
 cleared s = withServices (s .«service_info») freshReader
 
--- the answer, and the state: replaced, cleared, or as it was where the buffer is too short
+-- the answer and its place, and the state: replaced, cleared, or as it was where the buffer is too short
 unfoldable pub read : CDPParser → List ℕ → ℕ → CDPParserRead
 read s p room =
     let v = verdict (readChecks p room) in
     record {
       answer = answer v (captionsLength p);
+      place = placeOf v;
       parser = cond (leb captionRoom room) (ifClear v (shownBy p) (cleared s)) s;
     }
 

@@ -25,9 +25,10 @@ pub struct CDPParser {
     pub service_info: MaybeServiceInfo,
 }
 
-// What reading gives: the answer, and the reader as it is from then on.
+// What reading gives: the answer, the place of the byte that is refused, and the reader as it is from then on.
 pub struct CDPParserRead {
     pub answer: Answer,
+    pub place: usize,
     pub parser: CDPParser,
 }
 
@@ -75,6 +76,7 @@ impl CDPParser {
         if room < Self::CAPTION_ROOM {
             return CDPParserRead {
                 answer: Answer::buffer_too_short(Self::CAPTION_ROOM, room),
+                place: 0,
                 parser: self,
             };
         }
@@ -83,12 +85,14 @@ impl CDPParser {
         if !answer.is_done() {
             return CDPParserRead {
                 answer,
+                place: read.place,
                 parser: self.cleared(),
             };
         }
         hand_out(packet, read.flags.cc_data, read.captions_at, captions);
         CDPParserRead {
             answer,
+            place: 0,
             parser: shown(read, packet),
         }
     }

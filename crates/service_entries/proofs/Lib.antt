@@ -1,1 +1,2 @@
 pub mod SectionEntries
+pub mod SectionPlaces

@@ -1,6 +1,6 @@
 -- Reading a section, test by test: its frame, the entry at a place, and the entries one after the other.
 -- Assumes nothing.
-use mathlib.Core.Path.{_≡_, _∙_, sym, refl, ap}
+use mathlib.Core.Path.{_≡_, _∙_, sym, refl, ap, ap₂}
 use mathlib.Core.Bool.{Bool, true, false, not, _||_}
 use mathlib.Core.List.{List, [], _∷_, _++_}
 use Prim.Native.Nat.{ℕ, zero, suc, _+_, _-_, _*_, _/_, _%_, _≤_, _<_}
@@ -19,13 +19,20 @@ use Rattle.basis.proofs.Verdicts.{
   done-value,
   kept-first,
   kept-rest,
+  moved-clear,
+  moved-kept,
+  moved-outcome,
+  moved-refused,
+  movedVerdict,
   refused-shows,
   refused-stays,
   verdict-append,
+  verdict-moved,
 }
 use Rattle.basis.specs.Answer.{LengthMismatch, WrongMagic, InvalidFixedBits, ServiceNumberMismatch, done, refused}
 use Rattle.basis.specs.Bytes.{byte}
-use Rattle.basis.specs.Check.{Check, Verdict, check, clear, sizeCheck, verdict, answer, ifClear}
+use Rattle.basis.specs.Check.{Check, Verdict, checkAt, clear, moved, sizeCheck, verdict, answer, placeOf, ifClear}
+use Rattle.basis.specs.Code.{outcome, outcomeAt}
 use Rattle.basis.specs.Mask.{allSet, x80, x40, x20}
 use Rattle.values.specs.Layout.{servicesId, sectionLength, sectionEntrySize}
 use Rattle.service_entry.specs.Entry.{entryChecks, entryOf, entryRead}
@@ -40,7 +47,7 @@ use Rattle.service_entries.specs.Entries.{
   sectionChecks,
   sixBehind,
 }
-use Rattle.service_entries.specs.Code.{entriesRead, refusedEntries, sectionAnswer, Framed, answerAt}
+use Rattle.service_entries.specs.Code.{entriesRead, refusedEntries, sectionOutcome, Framed, outcomeOf}
 use Rattle.service_entry.specs.Service.{filler, numberOf}
 use Rattle.service_entry.specs.declared.entry.ServiceEntry.{ServiceEntry}
 use Rattle.basis.specs.declared.answer.Answer.{Answer}
@@ -60,23 +67,23 @@ decide header a b =
     upper (header / 32) (rw (← q) a) b
 
 -- what reading the entries gives
-abbrev shownEntries : Answer → List ServiceEntry → EntriesRead
-shownEntries a services = record { answer = a; services = services }
+abbrev shownEntries : ℕ → Answer → List ServiceEntry → EntriesRead
+shownEntries place a services = record { answer = a; place = place; services = services }
 
 -- S8, as the last of the checks at a place
 abbrev numberCheck : List ℕ → ℕ → Check
 numberCheck d at =
-    check (eqb (namedBy (byte d at)) (numberOf (entryOf (sixBehind d at) .service))) ServiceNumberMismatch
+    checkAt 0 (eqb (namedBy (byte d at)) (numberOf (entryOf (sixBehind d at) .service))) ServiceNumberMismatch
 
 -- S5 to S8
 module _ (d : List ℕ) (at : ℕ) where
-  pub header-no-80 : (byte d at / 128 % 2 ≡ 1 → ⊥) → refused InvalidFixedBits ≡ answerAt d at
-  unfolding answerAt
+  pub header-no-80 : (byte d at / 128 % 2 ≡ 1 → ⊥) → outcomeAt (refused InvalidFixedBits) 0 ≡ outcomeOf d at
+  unfolding outcomeOf
   header-no-80 a = simp (ne-eqb _ _ a)
 
   module _ (has-80 : byte d at / 128 % 2 ≡ 1) where
-    pub header-no-20 : byte d at / 32 % 4 ≡ 2 → refused InvalidFixedBits ≡ answerAt d at
-    unfolding answerAt
+    pub header-no-20 : byte d at / 32 % 4 ≡ 2 → outcomeAt (refused InvalidFixedBits) 0 ≡ outcomeOf d at
+    unfolding outcomeOf
     header-no-20 a =
         let with-40 : byte d at / 64 % 2 ≡ 1 = omega arith in
         let no-20 : byte d at / 32 % 2 ≡ 1 → ⊥ = λ h. omega arith in
@@ -91,17 +98,20 @@ module _ (d : List ℕ) (at : ℕ) where
 
       -- behind the header byte's own tests stand the entry's, and behind those the number's
       as-parts : verdict (checksAt d at)
-          ≡ andThen (verdict (entryChecks (sixBehind d at))) (verdict (numberCheck d at ∷ []))
+          ≡ andThen (movedVerdict 1 (verdict (entryChecks (sixBehind d at)))) (verdict (numberCheck d at ∷ []))
       as-parts =
-          simp (eq-eqb _ _ has-80, header-kept) (verdict-append (entryChecks (sixBehind d at)) (numberCheck d at ∷ []))
+          simp (eq-eqb _ _ has-80, header-kept) (verdict-append (moved 1 (entryChecks (sixBehind d at))) (numberCheck d at ∷ []))
+          ∙ ap (λ (v : Verdict). andThen v (verdict (numberCheck d at ∷ []))) (verdict-moved 1 (entryChecks (sixBehind d at)))
 
-      -- an entry that is refused by its own rules
+      -- an entry that is refused by its own rules: its place is counted from the header byte
       pub entry-refused : eqb (entryRead (sixBehind d at) .answer .number) 0 ≡ false
-          → entryRead (sixBehind d at) .answer ≡ answerAt d at
-      unfolding entryRead answerAt
+          → outcomeAt (entryRead (sixBehind d at) .answer) (1 + entryRead (sixBehind d at) .place) ≡ outcomeOf d at
+      unfolding entryRead outcomeOf
       entry-refused h =
-          ap (λ (v : Verdict). answer v 0)
-          (sym (refused-stays (verdict (entryChecks (sixBehind d at))) (verdict (numberCheck d at ∷ [])) 0 h)
+          let own : Verdict = verdict (entryChecks (sixBehind d at)) in
+          moved-outcome 1 own h
+          ∙ ap outcome
+          (sym (refused-stays (movedVerdict 1 own) (verdict (numberCheck d at ∷ [])) 0 (moved-refused 1 own h))
           ∙ sym as-parts)
 
       module _ (read : eqb (entryRead (sixBehind d at) .answer .number) 0 ≡ true) where
@@ -113,20 +123,20 @@ module _ (d : List ℕ) (at : ℕ) where
         unfolding entryRead
         whole = ap (λ (v : Verdict). ifClear v (entryOf (sixBehind d at)) filler) own-clear
 
-        last-check : answer (verdict (numberCheck d at ∷ [])) 0 ≡ answerAt d at
-        unfolding answerAt
+        last-check : outcome (verdict (numberCheck d at ∷ [])) ≡ outcomeOf d at
+        unfolding outcomeOf
         last-check =
-            ap (λ (v : Verdict). answer (andThen v (verdict (numberCheck d at ∷ []))) 0) (sym own-clear)
-            ∙ ap (λ (v : Verdict). answer v 0) (sym as-parts)
+            ap (λ (v : Verdict). outcome (andThen (movedVerdict 1 v) (verdict (numberCheck d at ∷ [])))) (sym own-clear)
+            ∙ ap outcome (sym as-parts)
 
         pub other-number : (namedBy (byte d at) ≡ numberOf (entryRead (sixBehind d at) .entry .service) → ⊥)
-            → refused ServiceNumberMismatch ≡ answerAt d at
+            → outcomeAt (refused ServiceNumberMismatch) 0 ≡ outcomeOf d at
         other-number h =
             let other : namedBy (byte d at) ≡ numberOf (entryOf (sixBehind d at) .service) → ⊥ = rw whole at h in
             rw (← last-check) (simp (ne-eqb _ _ other))
 
         pub same-number : namedBy (byte d at) ≡ numberOf (entryRead (sixBehind d at) .entry .service)
-            → done 0 ≡ answerAt d at
+            → outcomeAt (done 0) 0 ≡ outcomeOf d at
         same-number h =
             let same : namedBy (byte d at) ≡ numberOf (entryOf (sixBehind d at) .service) = rw whole at h in
             rw (← last-check) (simp (eq-eqb _ _ same))
@@ -192,7 +202,9 @@ module _ (d : List ℕ) (k count : ℕ) where
   left-first = rw (sub-zero count)
 
   -- what is left at k is the entry at k and what is left behind it
-  left-step : k < count → left d k count ≡ andThen (verdict (checksAt d (sectionLength k))) (left d (k + 1) count)
+  left-step : k < count
+      → left d k count
+      ≡ andThen (movedVerdict (sectionLength k) (verdict (checksAt d (sectionLength k)))) (left d (k + 1) count)
   unfolding left
   left-step h =
       let at : ℕ = sectionLength k in
@@ -200,8 +212,11 @@ module _ (d : List ℕ) (k count : ℕ) where
       let before : count - k ≡ suc rest = omega arith in
       let after : at + sectionEntrySize ≡ sectionLength (k + 1) = omega arith in
       ap (λ (n : ℕ). verdict (entryListChecks d at n)) before
-      ∙ verdict-append (checksAt d at) (entryListChecks d (at + sectionEntrySize) rest)
-      ∙ ap (λ (n : ℕ). andThen (verdict (checksAt d at)) (verdict (entryListChecks d n rest))) after
+      ∙ verdict-append (moved at (checksAt d at)) (entryListChecks d (at + sectionEntrySize) rest)
+      ∙ ap₂
+      andThen
+      (verdict-moved at (checksAt d at))
+      (ap (λ (n : ℕ). verdict (entryListChecks d n rest)) after)
 
   pub left-none : count ≤ k → left d k count ≡ clear
   unfolding left
@@ -209,79 +224,104 @@ module _ (d : List ℕ) (k count : ℕ) where
       let none : count - k ≡ 0 = omega arith in
       rw none
 
-  pub left-goes-on : k < count → eqb (answerAt d (sectionLength k) .number) 0 ≡ true → left d k count ≡ left d (k + 1) count
-  unfolding answerAt
+  pub left-goes-on : k < count → eqb (outcomeOf d (sectionLength k) .answer .number) 0 ≡ true
+      → left d k count ≡ left d (k + 1) count
+  unfolding outcomeOf
   left-goes-on h r =
       left-step h
-      ∙ ap (λ (v : Verdict). andThen v (left d (k + 1) count)) (done-clear (verdict (checksAt d (sectionLength k))) 0 r)
+      ∙ ap (λ (v : Verdict). andThen v (left d (k + 1) count))
+      (moved-clear (sectionLength k) (verdict (checksAt d (sectionLength k))) (done-clear (verdict (checksAt d (sectionLength k))) 0 r))
 
 -- S1 to S4, where one of them is the first that fails
 module _ (d : List ℕ) where
-  pub too-short : length d < 2 → refused (LengthMismatch 2 (length d)) ≡ sectionAnswer d
-  unfolding sectionAnswer sectionChecks
+  pub too-short : length d < 2 → outcomeAt (refused (LengthMismatch 2 (length d))) (length d) ≡ sectionOutcome d
+  unfolding sectionOutcome sectionChecks
   too-short h = simp (lt-leb _ _ h)
 
-  pub other-id : 2 ≤ length d → (byte d 0 ≡ servicesId → ⊥) → refused WrongMagic ≡ sectionAnswer d
-  unfolding sectionAnswer sectionChecks
+  pub other-id : 2 ≤ length d → (byte d 0 ≡ servicesId → ⊥) → outcomeAt (refused WrongMagic) 0 ≡ sectionOutcome d
+  unfolding sectionOutcome sectionChecks
   other-id h a = simp (le-leb _ _ h, ne-eqb _ _ a)
 
   pub no-80 : 2 ≤ length d → byte d 0 ≡ servicesId → (byte d 1 / 128 % 2 ≡ 1 → ⊥)
-      → refused InvalidFixedBits ≡ sectionAnswer d
-  unfolding sectionAnswer sectionChecks
+      → outcomeAt (refused InvalidFixedBits) 1 ≡ sectionOutcome d
+  unfolding sectionOutcome sectionChecks
   no-80 h a b = simp (le-leb _ _ h, eq-eqb _ _ a, ne-eqb _ _ b)
 
   pub other-size : 2 ≤ length d → byte d 0 ≡ servicesId → byte d 1 / 128 % 2 ≡ 1
       → (length d ≡ sectionLength (byte d 1 % 16) → ⊥)
-      → refused (LengthMismatch (sectionLength (byte d 1 % 16)) (length d)) ≡ sectionAnswer d
-  unfolding sectionAnswer sectionChecks
+      → outcomeAt (refused (LengthMismatch (sectionLength (byte d 1 % 16)) (length d))) (length d) ≡ sectionOutcome d
+  unfolding sectionOutcome sectionChecks
   other-size h a b s =
       let n : byte d 1 / 1 % 16 ≡ byte d 1 % 16 = omega arith in
       simp (n, le-leb _ _ h, eq-eqb _ _ a, eq-eqb _ _ b, ne-eqb _ _ s)
 
 -- S1 to S4 kept: the entries decide
-module _ (d : List ℕ) (header : ℕ) (framed : Framed d header) where
-  count-is : countOf d ≡ header % 16
-  count-is = omega (arith, framed .first)
+frame-kept : (d : List ℕ) → Framed d → verdict (sectionChecks d) ≡ left d 0 (byte d 1 % 16)
+unfolding sectionChecks
+frame-kept d framed =
+    let two : 2 ≤ length d = omega (arith, framed .size) in
+    let count-is : countOf d ≡ byte d 1 % 16 = omega arith in
+    simp (le-leb _ _ two, eq-eqb _ _ (framed .id), eq-eqb _ _ (framed .fixed), count-is, eq-eqb _ _ (framed .size))
+    (left-first d 0 (byte d 1 % 16))
 
-  frame-kept : verdict (sectionChecks d) ≡ left d 0 (header % 16)
-  unfolding sectionChecks
-  frame-kept =
-      let two : 2 ≤ length d = omega (arith, framed .size) in
-      let fixed : byte d 1 / 128 % 2 ≡ 1 = rw (framed .first) (framed .fixed) in
-      simp (le-leb _ _ two, eq-eqb _ _ (framed .id), eq-eqb _ _ fixed, count-is, eq-eqb _ _ (framed .size))
-      (left-first d 0 (header % 16))
+-- The loop's invariant: the place is the one behind so many entries, and what is left to test are those from there on.
+pub record Reached (d : List ℕ) (at : ℕ) : Type 0 where
+  pub tested : ℕ
+  pub place : at ≡ sectionLength tested
+  pub rest : left d 0 (byte d 1 % 16) ≡ left d tested (byte d 1 % 16)
 
-  pub section-refused : (k : ℕ) → k < header % 16 → left d 0 (header % 16) ≡ left d k (header % 16)
-      → eqb (answerAt d (sectionLength k) .number) 0 ≡ false → answerAt d (sectionLength k) ≡ sectionAnswer d
-  unfolding sectionAnswer answerAt
-  section-refused k h so-far r =
-      ap (λ (v : Verdict). answer v 0)
-      (sym (refused-stays (verdict (checksAt d (sectionLength k))) (left d (k + 1) (header % 16)) 0 r)
-      ∙ sym (frame-kept ∙ so-far ∙ left-step d k (header % 16) h))
+pub begins : (d : List ℕ) → Reached d 2
+begins d = record { tested = 0; place = refl; rest = refl }
 
-  pub section-whole : (k : ℕ) → k ≡ header % 16 → left d 0 (header % 16) ≡ left d k (header % 16)
-      → done 0 ≡ sectionAnswer d
-  unfolding sectionAnswer
-  section-whole k h so-far =
-      ap (λ (v : Verdict). answer v 0) (sym (frame-kept ∙ so-far ∙ left-none d k (header % 16) (omega arith)))
+module _ (d : List ℕ) (framed : Framed d) (at : ℕ) (r : Reached d at) where
+  -- before the end, a whole entry is left
+  more : at < length d → r .tested < byte d 1 % 16
+  more h = omega (arith, framed .size, r .place)
+
+  pub entry-there : at < length d → at + sectionEntrySize ≤ length d
+  entry-there h = omega (arith, framed .size, r .place, more h)
+
+  pub goes-on : at < length d → eqb (outcomeOf d at .answer .number) 0 ≡ true → Reached d (at + sectionEntrySize)
+  goes-on h done =
+      record {
+        tested = r .tested + 1;
+        place = omega (arith, r .place);
+        rest = r .rest ∙ left-goes-on d (r .tested) (byte d 1 % 16) (more h) (rw (r .place) at done);
+      }
+
+  pub section-refused : at < length d → eqb (outcomeOf d at .answer .number) 0 ≡ false
+      → outcomeAt (outcomeOf d at .answer) (at + outcomeOf d at .place) ≡ sectionOutcome d
+  unfolding sectionOutcome outcomeOf
+  section-refused h wrong =
+      let own : Verdict = verdict (checksAt d at) in
+      moved-outcome at own wrong
+      ∙ ap outcome
+      (sym (refused-stays (movedVerdict at own) (left d (r .tested + 1) (byte d 1 % 16)) 0 (moved-refused at own wrong))
+      ∙ ap (λ (n : ℕ). andThen (movedVerdict n (verdict (checksAt d n))) (left d (r .tested + 1) (byte d 1 % 16))) (r .place)
+      ∙ sym (frame-kept d framed ∙ r .rest ∙ left-step d (r .tested) (byte d 1 % 16) (more h)))
+
+  pub section-whole : length d ≤ at → outcomeAt (done 0) 0 ≡ sectionOutcome d
+  unfolding sectionOutcome
+  section-whole h =
+      let all : byte d 1 % 16 ≤ r .tested = omega (arith, framed .size, r .place) in
+      ap outcome (sym (frame-kept d framed ∙ r .rest ∙ left-none d (r .tested) (byte d 1 % 16) all))
 
 -- reading shows what a section holds where the tests are clear, and fillers where they are not
 module _ (d : List ℕ) where
-  pub entries-refused : eqb (sectionAnswer d .number) 0 ≡ false → refusedEntries (sectionAnswer d) ≡ entriesRead d
-  unfolding sectionAnswer entriesRead
+  pub entries-refused : eqb (sectionOutcome d .answer .number) 0 ≡ false
+      → refusedEntries (sectionOutcome d .answer) (sectionOutcome d .place) ≡ entriesRead d
+  unfolding sectionOutcome entriesRead
   entries-refused h =
-      refused-shows shownEntries (verdict (sectionChecks d)) 0 0 (filled (entriesOf d 2 (countOf d))) fillers h
+      refused-shows (shownEntries (placeOf (verdict (sectionChecks d)))) (verdict (sectionChecks d)) 0 0 (filled (entriesOf d 2 (countOf d))) fillers h
 
-  pub section-clear : eqb (sectionAnswer d .number) 0 ≡ true → verdict (sectionChecks d) ≡ clear
-  unfolding sectionAnswer
+  pub section-clear : eqb (sectionOutcome d .answer .number) 0 ≡ true → verdict (sectionChecks d) ≡ clear
+  unfolding sectionOutcome
   section-clear h = done-clear (verdict (sectionChecks d)) 0 h
 
-  pub entries-read : eqb (sectionAnswer d .number) 0 ≡ true
-      → shownEntries (sectionAnswer d) (filled (entriesOf d 2 (countOf d))) ≡ entriesRead d
-  unfolding sectionAnswer entriesRead
-  entries-read h =
-      ap (shownEntries (answer (verdict (sectionChecks d)) 0))
-      (sym (done-value (verdict (sectionChecks d)) 0 (filled (entriesOf d 2 (countOf d))) fillers h))
+  pub entries-read : eqb (sectionOutcome d .answer .number) 0 ≡ true
+      → shownEntries 0 (sectionOutcome d .answer) (filled (entriesOf d 2 (countOf d))) ≡ entriesRead d
+  unfolding sectionOutcome entriesRead
+  entries-read h = rw (done-clear (verdict (sectionChecks d)) 0 h)
 
 -- of entries that are right, each is right by its own rules, so that its own reader gives what its bytes hold
 module _ (d : List ℕ) where
@@ -291,40 +331,42 @@ module _ (d : List ℕ) where
   at-kept from (suc n) zero h v =
       let e : from ≡ from + sectionEntrySize * 0 = omega arith in
       rw (← e)
-      (and-first (verdict (checksAt d from)) (verdict (entryListChecks d (from + sectionEntrySize) n))
-      (sym (verdict-append (checksAt d from) (entryListChecks d (from + sectionEntrySize) n)) ∙ v))
+      (moved-kept from (checksAt d from)
+      (and-first (verdict (moved from (checksAt d from))) (verdict (entryListChecks d (from + sectionEntrySize) n))
+      (sym (verdict-append (moved from (checksAt d from)) (entryListChecks d (from + sectionEntrySize) n)) ∙ v)))
   at-kept from (suc n) (suc k) h v =
       let e : from + sectionEntrySize + sectionEntrySize * k ≡ from + sectionEntrySize * suc k = omega arith in
       rw (← e)
       (at-kept (from + sectionEntrySize) n k (omega arith)
-      (and-second (verdict (checksAt d from)) (verdict (entryListChecks d (from + sectionEntrySize) n))
-      (sym (verdict-append (checksAt d from) (entryListChecks d (from + sectionEntrySize) n)) ∙ v)))
+      (and-second (verdict (moved from (checksAt d from))) (verdict (entryListChecks d (from + sectionEntrySize) n))
+      (sym (verdict-append (moved from (checksAt d from)) (entryListChecks d (from + sectionEntrySize) n)) ∙ v)))
 
   pub entry-held : (from count k : ℕ) → verdict (entryListChecks d from count) ≡ clear → k < count
       → entryRead (sixBehind d (from + sectionEntrySize * k)) .entry ≡ entryOf (sixBehind d (from + sectionEntrySize * k))
   unfolding entryRead
   entry-held from count k v h =
       let at : ℕ = from + sectionEntrySize * k in
-      let bit : Check = check (allSet x80 (byte d at)) InvalidFixedBits in
-      let named : Check = check (not (allSet x40 (byte d at)) || allSet x20 (byte d at)) InvalidFixedBits in
-      let behind : List Check = entryChecks (sixBehind d at) ++ numberCheck d at ∷ [] in
+      let bit : Check = checkAt 0 (allSet x80 (byte d at)) InvalidFixedBits in
+      let named : Check = checkAt 0 (not (allSet x40 (byte d at)) || allSet x20 (byte d at)) InvalidFixedBits in
+      let behind : List Check = moved 1 (entryChecks (sixBehind d at)) ++ numberCheck d at ∷ [] in
       let own : verdict (entryChecks (sixBehind d at)) ≡ clear =
-      and-first _ (verdict (numberCheck d at ∷ []))
-      (sym (verdict-append (entryChecks (sixBehind d at)) (numberCheck d at ∷ []))
-      ∙ kept-rest named behind (kept-rest bit (named ∷ behind) (at-kept from count k h v))) in
+      moved-kept 1 (entryChecks (sixBehind d at))
+      (and-first _ (verdict (numberCheck d at ∷ []))
+      (sym (verdict-append (moved 1 (entryChecks (sixBehind d at))) (numberCheck d at ∷ []))
+      ∙ kept-rest named behind (kept-rest bit (named ∷ behind) (at-kept from count k h v)))) in
       rw own
 
 -- a section that is right has all its bytes, and its entries are right
 module _ (d : List ℕ) (right : verdict (sectionChecks d) ≡ clear) where
   abbrev idCheck : Check
-  idCheck = check (eqb (byte d 0) servicesId) WrongMagic
+  idCheck = checkAt 0 (eqb (byte d 0) servicesId) WrongMagic
 
   abbrev bitCheck : Check
-  bitCheck = check (allSet x80 (byte d 1)) InvalidFixedBits
+  bitCheck = checkAt 1 (allSet x80 (byte d 1)) InvalidFixedBits
 
   abbrev lengthCheck : Check
   lengthCheck =
-      check (eqb (length d) (sectionLength (countOf d))) (LengthMismatch (sectionLength (countOf d)) (length d))
+      checkAt (length d) (eqb (length d) (sectionLength (countOf d))) (LengthMismatch (sectionLength (countOf d)) (length d))
 
   abbrev own : List Check
   own = entryListChecks d 2 (countOf d)

@@ -6,7 +6,7 @@ use lib.Dec.{eqb}
 use lib.ListN.{length, replicate}
 use Rattle.basis.specs.Answer.{LengthMismatch, WrongMagic, InvalidFixedBits, ServiceNumberMismatch}
 use Rattle.basis.specs.Bytes.{byte}
-use Rattle.basis.specs.Check.{Check, check, sizeCheck}
+use Rattle.basis.specs.Check.{Check, checkAt, moved, sizeCheck}
 use Rattle.basis.specs.Mask.{under, allSet, x80, x40, x20, x3F, x1F, x0F}
 use Rattle.values.specs.Layout.{sectionEntrySize, sectionHeadSize, sectionLength, servicesId}
 use Rattle.service_entry.specs.Entry.{entryChecks, entryOf}
@@ -32,9 +32,9 @@ countOf d = under x0F (byte d 1)
 abbrev pub frameChecks : List ℕ → List Check
 frameChecks d =
     sizeCheck d sectionHeadSize
-    ∷ check (eqb (byte d 0) servicesId) WrongMagic
-    ∷ check (allSet x80 (byte d 1)) InvalidFixedBits
-    ∷ check (eqb (length d) (sectionLength (countOf d))) (LengthMismatch (sectionLength (countOf d)) (length d))
+    ∷ checkAt 0 (eqb (byte d 0) servicesId) WrongMagic
+    ∷ checkAt 1 (allSet x80 (byte d 1)) InvalidFixedBits
+    ∷ checkAt (length d) (eqb (length d) (sectionLength (countOf d))) (LengthMismatch (sectionLength (countOf d)) (length d))
     ∷ []
 
 -- S6: with 40 the low five bits of an entry's header byte, without it the low six
@@ -45,18 +45,19 @@ namedBy header = cond (allSet x40 header) (under x1F header) (under x3F header)
 abbrev pub sixBehind : List ℕ → ℕ → List ℕ
 sixBehind d at = byte d (at + 1) ∷ byte d (at + 2) ∷ byte d (at + 3) ∷ byte d (at + 4) ∷ byte d (at + 5) ∷ byte d (at + 6) ∷ []
 
--- at a place, S5: bit 80; S6: with 40 also 20; S7: the entry's own rules; S8: the number named is the one held
+-- at a place, S5: bit 80; S6: with 40 also 20; S7: the entry's own rules; S8: the number named is the one held; places are
+-- counted from the header byte, which S8 tests
 abbrev pub checksAt : List ℕ → ℕ → List Check
 checksAt d at =
-    check (allSet x80 (byte d at)) InvalidFixedBits
-    ∷ check (not (allSet x40 (byte d at)) || allSet x20 (byte d at)) InvalidFixedBits
-    ∷ entryChecks (sixBehind d at)
-    ++ check (eqb (namedBy (byte d at)) (numberOf (entryOf (sixBehind d at) .service))) ServiceNumberMismatch ∷ []
+    checkAt 0 (allSet x80 (byte d at)) InvalidFixedBits
+    ∷ checkAt 0 (not (allSet x40 (byte d at)) || allSet x20 (byte d at)) InvalidFixedBits
+    ∷ moved 1 (entryChecks (sixBehind d at))
+    ++ checkAt 0 (eqb (namedBy (byte d at)) (numberOf (entryOf (sixBehind d at) .service))) ServiceNumberMismatch ∷ []
 
 -- so many entries from a place on, first to last: their checks, and what they hold
 abbrev pub entryListChecks : List ℕ → ℕ → ℕ → List Check
 entryListChecks d at zero = []
-entryListChecks d at (suc n) = checksAt d at ++ entryListChecks d (at + sectionEntrySize) n
+entryListChecks d at (suc n) = moved at (checksAt d at) ++ entryListChecks d (at + sectionEntrySize) n
 
 abbrev pub entriesOf : List ℕ → ℕ → ℕ → List ServiceEntry
 entriesOf d at zero = []

@@ -10,19 +10,24 @@ use basis::Answer;
 use service_entry::ServiceEntry;
 use values::Packet;
 
-// What reading gives: the entries in the first places, the filler in the others; beside a refusal, in all.
+// What reading gives: the entries in the first places, the filler in the others; beside a refusal and its place, in all.
 pub struct EntriesRead {
     pub answer: Answer,
+    pub place: usize,
     pub services: [ServiceEntry; 15],
 }
 
 impl EntriesRead {
     // A refusal shows no entry.
-    fn refused(answer: Answer) -> Self
-        ensures { λ r. ⌜ r ≡ Code.refusedEntries answer ⌝ }
+    fn refused(answer: Answer, place: usize) -> Self
+        ensures { λ r. ⌜ r ≡ Code.refusedEntries answer place ⌝ }
     {
         let services = fillers();
-        Self { answer, services }
+        Self {
+            answer,
+            place,
+            services,
+        }
     }
 }
 
@@ -38,12 +43,14 @@ pub fn fillers() -> [ServiceEntry; 15]
 pub fn read_entries(data: &[u8]) -> EntriesRead
     ensures { λ r. ⌜ r ≡ Code.entriesRead (now («data» .entry)) ⌝ }
 {
-    let answer = test_section(data);
+    let tested = test_section(data);
+    let answer = tested.answer;
     if !answer.is_done() {
-        return EntriesRead::refused(answer);
+        return EntriesRead::refused(answer, tested.place);
     }
     EntriesRead {
         answer,
+        place: 0,
         services: places(data),
     }
 }

@@ -7,76 +7,80 @@ ghost use Rattle.service_entries.specs.Entries as Entries;
 ghost use Rattle.service_entries.specs.Code as Code;
 ghost use Rattle.service_entry.specs.Service as Service;
 use basis::Answer;
+use basis::Outcome;
 use service_entry::FieldOrService;
 use service_entry::ServiceEntry;
 use values::Packet;
 
 // Tests a section that stands alone, and makes nothing of it.
-pub fn test_section(data: &[u8]) -> Answer
-    ensures { λ r. ⌜ r ≡ Code.sectionAnswer (now («data» .entry)) ⌝ }
+pub fn test_section(data: &[u8]) -> Outcome
+    ensures { λ r. ⌜ r ≡ Code.sectionOutcome (now («data» .entry)) ⌝ }
 {
     let size = data.len();
     if size < Packet::SECTION_HEAD_LEN {
-        return Answer::length_mismatch(Packet::SECTION_HEAD_LEN, size);
+        return Outcome::at(
+            Answer::length_mismatch(Packet::SECTION_HEAD_LEN, size),
+            size,
+        );
     }
     if data[0] != Packet::SVC_INFO_ID {
-        return Answer::WRONG_MAGIC;
+        return Outcome::at(Answer::WRONG_MAGIC, 0);
     }
     let header = data[1];
     // Bit 80 is set.
     if header / 128 % 2 != 1 {
-        return Answer::INVALID_FIXED_BITS;
+        return Outcome::at(Answer::INVALID_FIXED_BITS, 1);
     }
     let expected = Packet::SECTION_HEAD_LEN + Packet::SECTION_ENTRY_LEN * (header % 16) as usize;
     if size != expected {
-        return Answer::length_mismatch(expected, size);
+        return Outcome::at(Answer::length_mismatch(expected, size), size);
     }
-    test_entries(data, header)
+    test_entries(data)
 }
 
 // Tests the entries behind the section's two bytes, first to last.
-fn test_entries(data: &[u8], header: u8) -> Answer
-    requires { ⌜ Code.Framed (now «data») header ⌝ }
-    ensures { λ r. ⌜ r ≡ Code.sectionAnswer (now («data» .entry)) ⌝ }
+fn test_entries(data: &[u8]) -> Outcome
+    requires { ⌜ Code.Framed (now «data») ⌝ }
+    ensures { λ r. ⌜ r ≡ Code.sectionOutcome (now («data» .entry)) ⌝ }
 {
-    let count = (header % 16) as usize;
-    for k in 0..count {
-        let answer = test_at(
-            data,
-            Packet::SECTION_HEAD_LEN + Packet::SECTION_ENTRY_LEN * k,
-        );
+    let size = data.len();
+    let mut at = Packet::SECTION_HEAD_LEN;
+    while at < size {
+        let tested = test_at(data, at);
+        let answer = tested.answer;
         if !answer.is_done() {
-            return answer;
+            return Outcome::at(answer, at + tested.place);
         }
+        at += Packet::SECTION_ENTRY_LEN;
     }
-    Answer::done(0)
+    Outcome::done()
 }
 
 // Tests the header byte at a place and the entry behind it.
-fn test_at(data: &[u8], at: usize) -> Answer
+fn test_at(data: &[u8], at: usize) -> Outcome
     requires { ⌜ at + sectionEntrySize ≤ length (now «data») ⌝ }
-    ensures { λ r. ⌜ r ≡ Code.answerAt (now («data» .entry)) at ⌝ }
+    ensures { λ r. ⌜ r ≡ Code.outcomeOf (now («data» .entry)) at ⌝ }
 {
     let header = data[at];
     // Bit 80 is set.
     if header / 128 % 2 != 1 {
-        return Answer::INVALID_FIXED_BITS;
+        return Outcome::at(Answer::INVALID_FIXED_BITS, 0);
     }
     // Bit 40 is clear, or 20 is set too.
     if header / 32 % 4 == 2 {
-        return Answer::INVALID_FIXED_BITS;
+        return Outcome::at(Answer::INVALID_FIXED_BITS, 0);
     }
     let read = ServiceEntry::parse(six_behind(data, at));
     let answer = read.answer;
     if !answer.is_done() {
-        return answer;
+        return Outcome::at(answer, 1 + read.place);
     }
     let entry = read.entry;
     let service = entry.service;
     if named_by(header) != number_of(service) {
-        return Answer::SERVICE_NUMBER_MISMATCH;
+        return Outcome::at(Answer::SERVICE_NUMBER_MISMATCH, 0);
     }
-    Answer::done(0)
+    Outcome::done()
 }
 
 // The six bytes behind a header byte.

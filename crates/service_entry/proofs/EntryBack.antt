@@ -131,7 +131,7 @@ entry-of-back e three h = rw (language-back (e .language) three, service-back (e
 -- An entry with a language of three bytes that can be written, a field or a digital number of 1 to 63: reading the six bytes
 -- that writing makes of it is done, and gives the same entry. Both fields are read back as they were.
 pub entry-back : (e : ServiceEntry) → length (e .language) ≡ 3 → writable (e .service) ≡ true
-    → entryRead (entryBytes e) ≡ record { answer = done 0; entry = e }
+    → entryRead (entryBytes e) ≡ record { answer = done 0; place = 0; entry = e }
 unfolding entryRead
 entry-back e three h = rw (entry-clear (e .language) (e .service) h, entry-of-back e three h)
 
@@ -139,7 +139,7 @@ entry-back e three h = rw (entry-clear (e .language) (e .service) h, entry-of-ba
 pub entry-written-back : (e : ServiceEntry) (buffer : List ℕ) → length (e .language) ≡ 3
     → eqb (entryWritten e buffer .answer .number) 0 ≡ true
     → entryRead (take (entryWritten e buffer .answer .first) (entryWritten e buffer .buffer))
-    ≡ record { answer = done 0; entry = e }
+    ≡ record { answer = done 0; place = 0; entry = e }
 unfolding entryWritten
 entry-written-back e buffer three h =
     let both = room-done (entryCheck e ∷ []) 6 (entryBytes e) buffer h in

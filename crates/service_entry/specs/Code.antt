@@ -27,5 +27,5 @@ abbrev pub sevenOf : ServiceEntry → List ℕ
 sevenOf e = headerByte (within 128 (e .service)) ∷ sixOf e
 
 -- a refusal shows the filler
-abbrev pub refusedEntry : Answer → ServiceEntryRead
-refusedEntry a = record { answer = a; entry = filler }
+abbrev pub refusedEntry : Answer → ℕ → ServiceEntryRead
+refusedEntry a place = record { answer = a; place = place; entry = filler }

@@ -6,7 +6,7 @@ use lib.Dec.{leb}
 use lib.ListN.{length}
 use Rattle.basis.specs.Answer.{NotWritable}
 use Rattle.basis.specs.Bytes.{byte}
-use Rattle.basis.specs.Check.{Check, check, roomCheck, verdict}
+use Rattle.basis.specs.Check.{WriteCheck, check, roomCheck, verdict}
 use Rattle.basis.specs.Mask.{flag}
 use Rattle.basis.specs.Writing.{Written, written}
 use Rattle.service_entry.specs.declared.entry.ServiceEntry.{ServiceEntry}
@@ -25,7 +25,7 @@ abbrev pub writable : FieldOrService → Bool
 writable (Field first) = true
 writable (Service digital) = leb 1 (digital .service) && leb (digital .service) mostNumber
 
-abbrev pub entryCheck : ServiceEntry → Check
+abbrev pub entryCheck : ServiceEntry → WriteCheck
 entryCheck e = check (writable (e .service)) NotWritable
 
 -- bytes 3 and 4: C0 + number and the two flags above 3F; 7E and 3F for field 1, 7F and 3F for field 2

@@ -12,19 +12,21 @@ pub struct ServiceEntry {
     pub service: FieldOrService,
 }
 
-// What reading gives: beside a refusal, the filler.
+// What reading gives: beside a refusal, its place in the entry, and the filler.
 pub struct ServiceEntryRead {
     pub answer: Answer,
+    pub place: usize,
     pub entry: ServiceEntry,
 }
 
 impl ServiceEntryRead {
     // A refusal shows the filler.
-    fn refused(answer: Answer) -> Self
-        ensures { λ r. ⌜ r ≡ Code.refusedEntry answer ⌝ }
+    fn refused(answer: Answer, place: usize) -> Self
+        ensures { λ r. ⌜ r ≡ Code.refusedEntry answer place ⌝ }
     {
         Self {
             answer,
+            place,
             entry: ServiceEntry::FILLER,
         }
     }
@@ -70,28 +72,29 @@ impl ServiceEntry {
         let last = bytes[5];
         // Bit 40 is set.
         if kind / 64 % 2 != 1 {
-            return ServiceEntryRead::refused(Answer::INVALID_FIXED_BITS);
+            return ServiceEntryRead::refused(Answer::INVALID_FIXED_BITS, 3);
         }
         if kind / 128 % 2 == 1 {
             // A digital number, which is not 0.
             if kind % 64 == 0 {
-                return ServiceEntryRead::refused(Answer::INVALID_SERVICE_NUMBER);
+                return ServiceEntryRead::refused(Answer::INVALID_SERVICE_NUMBER, 3);
             }
         } else {
             // A field: all of 3E is set.
             if kind / 2 % 32 != 31 {
-                return ServiceEntryRead::refused(Answer::INVALID_FIXED_BITS);
+                return ServiceEntryRead::refused(Answer::INVALID_FIXED_BITS, 3);
             }
         }
         // All of 3F is set.
         if flags % 64 != 63 {
-            return ServiceEntryRead::refused(Answer::INVALID_FIXED_BITS);
+            return ServiceEntryRead::refused(Answer::INVALID_FIXED_BITS, 4);
         }
         if last != 0xFF {
-            return ServiceEntryRead::refused(Answer::INVALID_FIXED_BITS);
+            return ServiceEntryRead::refused(Answer::INVALID_FIXED_BITS, 5);
         }
         ServiceEntryRead {
             answer: Answer::done(0),
+            place: 0,
             entry: Self::of_bytes(bytes),
         }
     }

@@ -11,14 +11,14 @@ use lib.ListN.{length, take, drop}
 use borrow.Author.Tests.{eq-eqb, ne-eqb, le-leb, eqb-true}
 use Rattle.basis.proofs.Bools.{and-left, and-right}
 use Rattle.basis.proofs.Places.{byte-on, further-on}
-use Rattle.basis.proofs.Verdicts.{andThen, verdict-append}
+use Rattle.basis.proofs.Verdicts.{andThen, moved-clear, movedVerdict, verdict-append, verdict-moved}
 use Rattle.basis.specs.Answer.{ServiceNumberMismatch, done, refused}
 use Rattle.basis.specs.Bytes.{byte}
-use Rattle.basis.specs.Check.{Check, Verdict, check, verdict, clear, broken}
+use Rattle.basis.specs.Check.{Check, Verdict, checkAt, moved, ruleAt, verdict, clear, broken}
 use Rattle.basis.specs.Mask.{flag, under, allSet, x80, x40, x20, x10, x3F, x0F}
 use Rattle.values.specs.Layout.{servicesId, sectionLength, sectionEntrySize}
 use Rattle.service_entry.specs.Entry.{entryChecks, entryOf}
-use Rattle.service_list.specs.SectionBack.{isFieldTwo, namesFieldTwo, allOfThree, Ready}
+use Rattle.service_list.specs.SectionBack.{isFieldTwo, namesFieldTwo, beforeFieldTwo, allOfThree, Ready}
 use Rattle.service_entries.specs.Entries.{
   sixBehind,
   checksAt,
@@ -44,9 +44,9 @@ use Rattle.service_list.proofs.SectionWrites.{bytes-length, counted-len
 use Rattle.basis.proofs.Writes.{first-bytes}
 use Rattle.service_entry.proofs.EntryBack.{all-set, number-high, service-back, entry-clear, entry-of-back}
 
--- clear, or 7 where the entries name field 2
-abbrev pub named : Bool → Verdict
-named two = cond two (broken ServiceNumberMismatch) clear
+-- clear, or 7 where the entries name field 2, at a place
+abbrev pub named : Bool → ℕ → Verdict
+named two place = cond two (broken (ruleAt place ServiceNumberMismatch)) clear
 
 -- the header byte of a number: bit 80 is set, bit 40 is clear, the low six are the number
 module _ (n : ℕ) (h : n ≤ 63) where
@@ -76,20 +76,23 @@ header-named (Field true) h = refl
 header-named (Field false) h = refl
 header-named (Service d) h = eq-eqb _ _ (header-number (d .service) (number-high d h))
 
-not-two : (two : Bool) → cond (not two) clear (broken ServiceNumberMismatch) ≡ named two
+not-two : (two : Bool) → cond (not two) clear (broken (ruleAt 0 ServiceNumberMismatch)) ≡ named two 0
 not-two true = refl
 not-two false = refl
 
 -- where the checks before it are clear, the number named decides
 last : (cs : List Check) (kept two : Bool) → verdict cs ≡ clear → kept ≡ not two
-    → verdict (cs ++ check kept ServiceNumberMismatch ∷ []) ≡ named two
-last cs kept two h k = verdict-append cs (check kept ServiceNumberMismatch ∷ []) ∙ rw (h, k, not-two two)
+    → verdict (cs ++ checkAt 0 kept ServiceNumberMismatch ∷ []) ≡ named two 0
+last cs kept two h k = verdict-append cs (checkAt 0 kept ServiceNumberMismatch ∷ []) ∙ rw (h, k, not-two two)
 
 place-verdict : (d : List ℕ) (at : ℕ) (two : Bool) → allSet x80 (byte d at) ≡ true → allSet x40 (byte d at) ≡ false
     → verdict (entryChecks (sixBehind d at)) ≡ clear
     → eqb (under x3F (byte d at)) (numberOf (entryOf (sixBehind d at) .service)) ≡ not two
-    → verdict (checksAt d at) ≡ named two
-place-verdict d at two h80 h40 kept same = simp (h80, h40) (last (entryChecks (sixBehind d at)) _ two kept same)
+    → verdict (checksAt d at) ≡ named two 0
+place-verdict d at two h80 h40 kept same =
+    simp (h80, h40)
+    (last (moved 1 (entryChecks (sixBehind d at))) _ two
+    (verdict-moved 1 (entryChecks (sixBehind d at)) ∙ moved-clear 1 _ kept) same)
 
 -- what stands from a place on: its bytes are those of the whole, and what follows is what stands further on
 module _ (d : List ℕ) (at : ℕ) (e : ServiceEntry) (rest : List ℕ) (h : drop at d ≡ sevenBytes e ++ rest) where
@@ -105,8 +108,8 @@ module _ (d : List ℕ) (at : ℕ) (e : ServiceEntry) (rest : List ℕ) (h : dro
   rest-on : drop (at + sectionEntrySize) d ≡ rest
   rest-on = further-on d at (sevenBytes e) rest h sectionEntrySize refl
 
-  -- reading there: 7 for field 2, else clear
-  place-back : writable (e .service) ≡ true → verdict (checksAt d at) ≡ named (isFieldTwo (e .service))
+  -- reading there: 7 at the header byte for field 2, else clear
+  place-back : writable (e .service) ≡ true → verdict (checksAt d at) ≡ named (isFieldTwo (e .service)) 0
   place-back w =
       place-verdict
       d
@@ -119,21 +122,34 @@ module _ (d : List ℕ) (at : ℕ) (e : ServiceEntry) (rest : List ℕ) (h : dro
       (header-named (e .service) w))
 
 -- the verdict on entries one after the other, and what they hold
-both : (a b : Bool) → andThen (named a) (named b) ≡ named (a || b)
-both true b = refl
-both false b = refl
+both : (a b : Bool) (j k : ℕ) → andThen (named a j) (named b k) ≡ named (a || b) (cond a j k)
+both true b j k = refl
+both false b j k = refl
+
+pub named-moved : (from : ℕ) (two : Bool) (place : ℕ) → movedVerdict from (named two place) ≡ named two (from + place)
+named-moved from true place = refl
+named-moved from false place = refl
+
+further : (two : Bool) (at k : ℕ)
+    → cond two (at + 0) (at + sectionEntrySize + sectionEntrySize * k) ≡ at + sectionEntrySize * cond two 0 (1 + k)
+further true at k = omega arith
+further false at k = omega arith
 
 checks-back : (d : List ℕ) (at : ℕ) (es : List ServiceEntry) → drop at d ≡ entryListBytes es → allWritable es ≡ true
-    → verdict (entryListChecks d at (length es)) ≡ named (namesFieldTwo es)
-unfolding allWritable namesFieldTwo
+    → verdict (entryListChecks d at (length es)) ≡ named (namesFieldTwo es) (at + sectionEntrySize * beforeFieldTwo es)
+unfolding allWritable namesFieldTwo beforeFieldTwo
 checks-back d at [] h w = refl
 checks-back d at (e ∷ es) h w =
-    verdict-append (checksAt d at) (entryListChecks d (at + sectionEntrySize) (length es))
+    let two : Bool = isFieldTwo (e .service) in
+    verdict-append (moved at (checksAt d at)) (entryListChecks d (at + sectionEntrySize) (length es))
     ∙ ap₂
     andThen
-    (place-back d at e (entryListBytes es) h (and-left _ _ w))
+    (verdict-moved at (checksAt d at)
+    ∙ ap (movedVerdict at) (place-back d at e (entryListBytes es) h (and-left _ _ w))
+    ∙ named-moved at two 0)
     (checks-back d (at + sectionEntrySize) es (rest-on d at e (entryListBytes es) h) (and-right (writable (e .service)) _ w))
-    ∙ both (isFieldTwo (e .service)) (namesFieldTwo es)
+    ∙ both two (namesFieldTwo es) (at + 0) (at + sectionEntrySize + sectionEntrySize * beforeFieldTwo es)
+    ∙ ap (named (two || namesFieldTwo es)) (further two at (beforeFieldTwo es))
 
 entries-back : (d : List ℕ) (at : ℕ) (es : List ServiceEntry) → drop at d ≡ entryListBytes es → allWritable es ≡ true
     → allOfThree es ≡ true → entriesOf d at (length es) ≡ es
@@ -199,7 +215,8 @@ module _ (l : ServiceInfo) (r : Ready l) where
   entry-bytes-length : length (entryListBytes (counted l)) ≡ sectionEntrySize * under x0F (sectionByte l)
   entry-bytes-length = rw entries-count (bytes-length (counted l))
 
-  pub section-verdict : verdict (sectionChecks (sectionBytes l)) ≡ named (namesFieldTwo (counted l))
+  pub section-verdict : verdict (sectionChecks (sectionBytes l))
+      ≡ named (namesFieldTwo (counted l)) (sectionLength (beforeFieldTwo (counted l)))
   unfolding sectionChecks sectionBytes
   section-verdict =
       verdict-append (frameChecks (sectionBytes l)) (entryListChecks (sectionBytes l) 2 (countOf (sectionBytes l)))
@@ -232,18 +249,23 @@ module _ (l : ServiceInfo) (r : Ready l) where
 -- and gives the same flags, count and counted entries, with fillers in the places past the count.
 pub section-back : (l : ServiceInfo) → Ready l → allOfThree (counted l) ≡ true → namesFieldTwo (counted l) ≡ false
     → sectionRead (sectionBytes l)
-    ≡ record { answer = done 0; list = list (l .start) (l .change) (l .complete) (filled (counted l)) (l .count) }
+    ≡ record { answer = done 0; place = 0; list = list (l .start) (l .change) (l .complete) (filled (counted l)) (l .count) }
 unfolding sectionRead
 section-back l r languages none = rw (section-verdict l r, none, list-back l r languages)
 
 -- Where the places past the count hold fillers already, that is the list itself.
 pub list-same : (l : ServiceInfo) → Ready l → allOfThree (counted l) ≡ true → namesFieldTwo (counted l) ≡ false
-    → l .services ≡ filled (counted l) → sectionRead (sectionBytes l) ≡ record { answer = done 0; list = l }
+    → l .services ≡ filled (counted l) → sectionRead (sectionBytes l) ≡ record { answer = done 0; place = 0; list = l }
 list-same l r languages none rest = section-back l r languages none ∙ rw (← rest)
 
--- A list that can be written, and that names field 2 anywhere: reading its section is answered 7, with the empty list.
+-- A list that can be written, and that names field 2 anywhere: reading its section is answered 7 at the header byte of the
+-- first such entry, with the empty list.
 pub field-two-refused : (l : ServiceInfo) → Ready l → namesFieldTwo (counted l) ≡ true
-    → sectionRead (sectionBytes l) ≡ record { answer = refused ServiceNumberMismatch; list = empty }
+    → sectionRead (sectionBytes l) ≡ record {
+      answer = refused ServiceNumberMismatch;
+      place = sectionLength (beforeFieldTwo (counted l));
+      list = empty;
+    }
 unfolding sectionRead
 field-two-refused l r some = rw (section-verdict l r, some)
 
@@ -262,10 +284,14 @@ module _ (l : ServiceInfo) (buffer : List ℕ) (taken : eqb (sectionWritten l bu
 
   pub written-back : allOfThree (counted l) ≡ true → namesFieldTwo (counted l) ≡ false
       → sectionRead (take (sectionWritten l buffer .answer .first) (sectionWritten l buffer .buffer))
-      ≡ record { answer = done 0; list = list (l .start) (l .change) (l .complete) (filled (counted l)) (l .count) }
+      ≡ record { answer = done 0; place = 0; list = list (l .start) (l .change) (l .complete) (filled (counted l)) (l .count) }
   written-back languages h = rw first-written (section-back l ready languages h)
 
   pub written-field-two : namesFieldTwo (counted l) ≡ true
       → sectionRead (take (sectionWritten l buffer .answer .first) (sectionWritten l buffer .buffer))
-      ≡ record { answer = refused ServiceNumberMismatch; list = empty }
+      ≡ record {
+        answer = refused ServiceNumberMismatch;
+        place = sectionLength (beforeFieldTwo (counted l));
+        list = empty;
+      }
   written-field-two h = rw first-written (field-two-refused l ready h)

@@ -10,7 +10,7 @@ use lib.Dec.{eqb}
 use lib.ListN.{length, drop}
 use Rattle.basis.proofs.Verdicts.{done-clear, kept-first, refused-shows}
 use Rattle.basis.specs.Bytes.{byte}
-use Rattle.basis.specs.Check.{clear, sizeCheck, verdict}
+use Rattle.basis.specs.Check.{clear, placeOf, sizeCheck, verdict}
 use Rattle.service_entries.specs.Entries.{countOf, entriesOf, filled, sectionChecks}
 use Rattle.service_entries.specs.Code.{entriesRead}
 use Rattle.service_list.specs.Section.{listOf, listWith, sectionRead}
@@ -33,10 +33,11 @@ unfolding listOf
 list-is d = refl
 
 module _ (d : List ℕ) where
-  pub list-refused : eqb (entriesRead d .answer .number) 0 ≡ false → refusedList (entriesRead d .answer) ≡ sectionRead d
+  pub list-refused : eqb (entriesRead d .answer .number) 0 ≡ false → refusedList (entriesRead d .answer) (entriesRead d .place) ≡ sectionRead d
   unfolding entriesRead sectionRead
   list-refused h =
-      refused-shows (λ (a : Answer) (l : ServiceInfo). record { answer = a; list = l })
+      refused-shows
+      (λ (a : Answer) (l : ServiceInfo). record { answer = a; place = placeOf (verdict (sectionChecks d)); list = l })
       (verdict (sectionChecks d)) 0 0 (listOf d) empty h
 
   module _ (read : eqb (entriesRead d .answer .number) 0 ≡ true) where
@@ -49,7 +50,7 @@ module _ (d : List ℕ) where
     two-bytes = leb-true _ _ (kept-first (sizeCheck d 2) (drop 1 (sectionChecks d)) all-clear)
 
     pub list-read : _≡_ {A = ServiceInfoRead}
-        (record { answer = entriesRead d .answer; list = listWith (byte d 1) (entriesRead d .services) })
+        (record { answer = entriesRead d .answer; place = 0; list = listWith (byte d 1) (entriesRead d .services) })
         (sectionRead d)
     unfolding entriesRead sectionRead
     list-read = rw (all-clear, list-is d)

@@ -10,7 +10,7 @@ use borrow.Author.Tests.{le-leb, lt-leb}
 use lib.ListN.{length, getD}
 use Rattle.basis.proofs.Bools.{and-left, and-right}
 use Rattle.basis.specs.Answer.{WouldOverflow, NotWritable, done, refused}
-use Rattle.basis.specs.Check.{Verdict, clear, broken, verdict}
+use Rattle.basis.specs.Check.{WriteVerdict, clear, broken, unplaced, verdict}
 use Rattle.service_entry.specs.Service.{filler}
 use Rattle.service_entry.specs.EntryWriting.{writable}
 use Rattle.service_list.specs.Code.{allWritable, valueAnswer}
@@ -66,14 +66,14 @@ module _ (k count : ℕ) (services : List ServiceEntry) where
 
 -- the entries' checks come to one test
 pub entries-verdict : (es : List ServiceEntry)
-    → verdict (entryWriteChecks es) ≡ cond (allWritable es) clear (broken NotWritable)
+    → verdict (entryWriteChecks es) ≡ cond (allWritable es) clear (broken (unplaced NotWritable))
 unfolding allWritable
 entries-verdict [] = refl
 entries-verdict (e ∷ es) =
     step (writable (e .service)) (allWritable es) (verdict (entryWriteChecks es)) (entries-verdict es)
   where
-    step : (w ws : Bool) (v : Verdict) → v ≡ cond ws clear (broken NotWritable)
-        → cond w v (broken NotWritable) ≡ cond (w && ws) clear (broken NotWritable)
+    step : (w ws : Bool) (v : WriteVerdict) → v ≡ cond ws clear (broken (unplaced NotWritable))
+        → cond w v (broken (unplaced NotWritable)) ≡ cond (w && ws) clear (broken (unplaced NotWritable))
     step true ws v h = h
     step false ws v h = refl
 

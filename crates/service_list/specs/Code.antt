@@ -1,6 +1,7 @@
 -- Follows the code and not the rules: a list's entries tested in one loop, the answer of that test, and what stands beside a refusal.
 use mathlib.Core.Bool.{Bool, true, _&&_}
 use mathlib.Core.List.{List, [], _∷_}
+use Prim.Native.Nat.{ℕ}
 use Rattle.service_entry.specs.EntryWriting.{writable}
 use Rattle.service_entry.specs.declared.entry.ServiceEntry.{ServiceEntry}
 use Rattle.basis.specs.Check.{verdict, answer}
@@ -16,8 +17,8 @@ allWritable [] = true
 allWritable (e ∷ es) = writable (e .service) && allWritable es
 
 -- a refusal shows the empty list
-abbrev pub refusedList : Answer → ServiceInfoRead
-refusedList a = record { answer = a; list = empty }
+abbrev pub refusedList : Answer → ℕ → ServiceInfoRead
+refusedList a place = record { answer = a; place = place; list = empty }
 
 unfoldable pub valueAnswer : ServiceInfo → Answer
 valueAnswer l = answer (verdict (valueChecks l)) 0

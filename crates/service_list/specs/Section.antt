@@ -2,7 +2,7 @@
 use mathlib.Core.List.{List}
 use Prim.Native.Nat.{ℕ}
 use Rattle.basis.specs.Bytes.{byte}
-use Rattle.basis.specs.Check.{verdict, answer, ifClear}
+use Rattle.basis.specs.Check.{verdict, answer, placeOf, ifClear}
 use Rattle.basis.specs.Mask.{under, allSet, x40, x20, x10, x0F}
 use Rattle.service_entries.specs.Entries.{countOf, entriesOf, filled, sectionChecks}
 use Rattle.service_list.specs.ServiceList.{list, empty}
@@ -22,4 +22,4 @@ listOf d = listWith (byte d 1) (filled (entriesOf d 2 (countOf d)))
 unfoldable pub sectionRead : List ℕ → ServiceInfoRead
 sectionRead d =
     let v = verdict (sectionChecks d) in
-    record { answer = answer v 0; list = ifClear v (listOf d) empty }
+    record { answer = answer v 0; place = placeOf v; list = ifClear v (listOf d) empty }

@@ -1,8 +1,8 @@
 -- What reading a section again asks of the list that it was written from.
-use mathlib.Core.Bool.{Bool, true, false, not, _&&_, _||_}
+use mathlib.Core.Bool.{Bool, true, false, cond, not, _&&_, _||_}
 use mathlib.Core.List.{List, [], _∷_}
 use mathlib.Core.Path.{_≡_}
-use Prim.Native.Nat.{_≤_}
+use Prim.Native.Nat.{ℕ, _+_, _≤_}
 use lib.Dec.{eqb}
 use lib.ListN.{length}
 use Rattle.service_entries.specs.Entries.{places}
@@ -22,6 +22,11 @@ isFieldTwo (Service digital) = false
 unfoldable pub namesFieldTwo : List ServiceEntry → Bool
 namesFieldTwo [] = false
 namesFieldTwo (e ∷ es) = isFieldTwo (e .service) || namesFieldTwo es
+
+-- and how many entries stand in front of the first of these, whose header byte reading refuses
+unfoldable pub beforeFieldTwo : List ServiceEntry → ℕ
+beforeFieldTwo [] = 0
+beforeFieldTwo (e ∷ es) = cond (isFieldTwo (e .service)) 0 (1 + beforeFieldTwo es)
 
 -- every language has its three bytes, as its type says; what is shown of a list hangs on it, and no answer does
 unfoldable pub allOfThree : List ServiceEntry → Bool

@@ -2,7 +2,7 @@
 use mathlib.Core.List.{List, [], _∷_, _++_}
 use Prim.Native.Nat.{ℕ, zero, suc, _+_}
 use lib.ListN.{getD, length}
-use Rattle.basis.specs.Check.{Check, roomCheck, verdict}
+use Rattle.basis.specs.Check.{WriteCheck, roomCheck, verdict}
 use Rattle.basis.specs.Mask.{flag}
 use Rattle.values.specs.Layout.{servicesId, sectionLength}
 use Rattle.service_entry.specs.Service.{filler}
@@ -13,7 +13,7 @@ use Rattle.service_list.specs.declared.list.ServiceInfo.{ServiceInfo}
 use Rattle.service_entry.specs.declared.entry.ServiceEntry.{ServiceEntry}
 
 -- the checks, and the bytes, of entries one after the other
-abbrev pub entryWriteChecks : List ServiceEntry → List Check
+abbrev pub entryWriteChecks : List ServiceEntry → List WriteCheck
 entryWriteChecks [] = []
 entryWriteChecks (e ∷ es) = entryCheck e ∷ entryWriteChecks es
 
@@ -38,7 +38,7 @@ unfoldable pub sectionBytes : ServiceInfo → List ℕ
 sectionBytes l = servicesId ∷ sectionByte l ∷ entryListBytes (counted l)
 
 -- W7: the count; W8: the entries
-abbrev pub valueChecks : ServiceInfo → List Check
+abbrev pub valueChecks : ServiceInfo → List WriteCheck
 valueChecks l = countCheck l ∷ entryWriteChecks (counted l)
 
 -- a section: count, entries, room

@@ -5,7 +5,7 @@ use Prim.Native.Nat.{ℕ, _+_}
 use lib.Dec.{leb, ltb}
 use lib.ListN.{set}
 use Rattle.basis.specs.Answer.{WouldOverflow}
-use Rattle.basis.specs.Check.{Check, check, verdict, answer, ifClear}
+use Rattle.basis.specs.Check.{WriteCheck, check, verdict, answer, ifClear}
 use Rattle.service_entries.specs.Entries.{places, fillers}
 use Rattle.service_entry.specs.declared.entry.ServiceEntry.{ServiceEntry}
 use Rattle.service_list.specs.declared.list.MaybeServiceInfo.{MaybeServiceInfo}
@@ -52,7 +52,7 @@ added l e =
     }
 
 -- W7: a count over 15 is no list's
-abbrev pub countCheck : ServiceInfo → Check
+abbrev pub countCheck : ServiceInfo → WriteCheck
 countCheck l = check (leb (l .count) places) WouldOverflow
 
 abbrev pub byteLen : ServiceInfo → Answer

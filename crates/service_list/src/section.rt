@@ -7,19 +7,24 @@ use basis::Answer;
 use service_entries::read_entries;
 use service_entry::ServiceEntry;
 
-// What reading gives: beside a refusal, the empty list.
+// What reading gives: beside a refusal, its place in the section, and the empty list.
 pub struct ServiceInfoRead {
     pub answer: Answer,
+    pub place: usize,
     pub list: ServiceInfo,
 }
 
 impl ServiceInfoRead {
     // A refusal shows the empty list.
-    fn refused(answer: Answer) -> Self
-        ensures { λ r. ⌜ r ≡ Code.refusedList answer ⌝ }
+    fn refused(answer: Answer, place: usize) -> Self
+        ensures { λ r. ⌜ r ≡ Code.refusedList answer place ⌝ }
     {
         let list = ServiceInfo::default();
-        Self { answer, list }
+        Self {
+            answer,
+            place,
+            list,
+        }
     }
 }
 
@@ -31,11 +36,12 @@ impl ServiceInfo {
         let read = read_entries(data);
         let answer = read.answer;
         if !answer.is_done() {
-            return ServiceInfoRead::refused(answer);
+            return ServiceInfoRead::refused(answer, read.place);
         }
         let services = read.services;
         ServiceInfoRead {
             answer,
+            place: 0,
             list: Self::with(data[1], services),
         }
     }

@@ -7,6 +7,7 @@ mod lists;
 mod operation;
 mod packet;
 mod packet_write;
+mod places;
 mod print;
 mod read;
 mod show;

@@ -42,7 +42,7 @@ pub fn run(line: &[u8], given: &mut [u8], lent: &mut [u8], out: &mut [u8], s: St
     }
     let letter = line[0];
     match letter {
-        b'P' => packet::read(line, given, lent, out, s),
+        b'P' | b'A' => packet::read(line, letter, given, lent, out, s),
         b'F' => packet::flush(line, out, s),
         b'G' => packet::active(line, out, s),
         _ => without_reader(line, letter, given, lent, out, s),
@@ -72,8 +72,8 @@ fn printed(
     at: usize,
 ) -> usize {
     match letter {
-        b'S' => read::section(line, given, out, at),
-        b'E' => read::entry(line, given, out, at),
+        b'S' | b'B' => read::section(line, letter, given, out, at),
+        b'E' | b'C' => read::entry(line, letter, given, out, at),
         b'T' => calls::calls(line, out, at),
         b'W' => packet_write::write(line, given, lent, out, at),
         b'L' => write::section(line, lent, out, at),

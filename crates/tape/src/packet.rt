@@ -1,14 +1,23 @@
 // The operations P, F and G: a packet, read by the one reader of the tape, a flush of the reader, and the reader's mark.
+// The words of A are those of P.
 use crate::lent;
 use crate::operation::State;
 use crate::operation::malformed;
+use crate::places;
 use crate::print::bit;
 use crate::print::word;
 use crate::show;
 use crate::words;
 use report::fill;
 
-pub fn read(line: &[u8], given: &mut [u8], lent: &mut [u8], out: &mut [u8], s: State) -> State {
+pub fn read(
+    line: &[u8],
+    letter: u8,
+    given: &mut [u8],
+    lent: &mut [u8],
+    out: &mut [u8],
+    s: State,
+) -> State {
     let lends = lent::room(line);
     let room = lends.value as usize;
     let found = words::bytes(line, words::mark(line, lends.next, b' '), given);
@@ -21,6 +30,9 @@ pub fn read(line: &[u8], given: &mut [u8], lent: &mut [u8], out: &mut [u8], s: S
     }
     if lent.len() < room {
         return s.malformed(out);
+    }
+    if letter == b'A' {
+        return places::packet(&given[0..count], &mut lent[0..room], out, s);
     }
     read_into(&given[0..count], &mut lent[0..room], out, s)
 }

@@ -1,12 +1,13 @@
-// The operations S and E: a section and an entry, read from bytes.
+// The operations S and E: a section and an entry, read from bytes. The words of B and C are the same.
 use crate::operation::malformed;
+use crate::places;
 use crate::print::word;
 use crate::show;
 use crate::words;
 use service_list::ServiceEntry;
 use service_list::ServiceInfo;
 
-pub fn section(line: &[u8], given: &mut [u8], out: &mut [u8], at: usize) -> usize {
+pub fn section(line: &[u8], letter: u8, given: &mut [u8], out: &mut [u8], at: usize) -> usize {
     let found = words::bytes(line, words::operands(line), given);
     let count = found.count;
     if !words::ends(line, found.next) {
@@ -14,6 +15,9 @@ pub fn section(line: &[u8], given: &mut [u8], out: &mut [u8], at: usize) -> usiz
     }
     if given.len() < count {
         return malformed(out, at);
+    }
+    if letter == b'B' {
+        return places::section(&given[0..count], out, at);
     }
     section_of(&given[0..count], out, at)
 }
@@ -28,7 +32,7 @@ fn section_of(bytes: &[u8], out: &mut [u8], at: usize) -> usize {
     show::list(out, named, list)
 }
 
-pub fn entry(line: &[u8], given: &mut [u8], out: &mut [u8], at: usize) -> usize {
+pub fn entry(line: &[u8], letter: u8, given: &mut [u8], out: &mut [u8], at: usize) -> usize {
     let found = words::bytes(line, words::operands(line), given);
     if !words::ends(line, found.next) {
         return malformed(out, at);
@@ -39,11 +43,11 @@ pub fn entry(line: &[u8], given: &mut [u8], out: &mut [u8], at: usize) -> usize 
     if given.len() < 6 {
         return malformed(out, at);
     }
-    entry_of(
-        [given[0], given[1], given[2], given[3], given[4], given[5]],
-        out,
-        at,
-    )
+    let bytes = [given[0], given[1], given[2], given[3], given[4], given[5]];
+    if letter == b'C' {
+        return places::entry(bytes, out, at);
+    }
+    entry_of(bytes, out, at)
 }
 
 fn entry_of(bytes: [u8; 6], out: &mut [u8], at: usize) -> usize {

@@ -9,10 +9,10 @@ use native.Mathlib.Omega.{arith}
 use borrow.Author.Tests.{eqb-true}
 use lib.Dec.{eqb, leb}
 use lib.ListN.{drop, length}
-use Rattle.basis.proofs.Verdicts.{andThen, done-clear, kept-first, kept-rest}
-use Rattle.basis.specs.Answer.{LengthMismatch, WrongMagic}
+use Rattle.basis.proofs.Verdicts.{andThen, done-clear, moved-clear, kept-first, kept-rest}
+use Rattle.basis.specs.Answer.{WrongMagic}
 use Rattle.basis.specs.Bytes.{byte}
-use Rattle.basis.specs.Check.{Check, Verdict, check, clear, ifClear, sizeWhen, verdict, when}
+use Rattle.basis.specs.Check.{Check, Verdict, checkAt, clear, ifClear, sizeCheck, sizeWhen, verdict, when}
 use Rattle.basis.specs.Mask.{under, xF0}
 use Rattle.values.specs.Flags.{flagsOf}
 use Rattle.values.specs.Layout.{servicesId, sectionLength, timeCodeSize}
@@ -171,8 +171,8 @@ module _ (p q : List ℕ) (a : Altered p q) where
     own-id : byte q at ≡ servicesId
     unfolding sectionChecks
     own-id =
-        let two : Check = check (leb 2 (length own)) (LengthMismatch 2 (length own)) in
-        let first : Check = check (eqb (byte own 0) servicesId) WrongMagic in
+        let two : Check = sizeCheck own 2 in
+        let first : Check = checkAt 0 (eqb (byte own 0) servicesId) WrongMagic in
         let id : byte own 0 ≡ servicesId =
         eqb-true _ _
         (kept-first first (drop 2 (sectionChecks own)) (kept-rest two (drop 1 (sectionChecks own)) own-clear)) in
@@ -184,7 +184,7 @@ module _ (p q : List ℕ) (a : Altered p q) where
         omega (arith, same, section-fits (captionsFrom p) (closingAt p) p q put on, size)
 
     own-verdict : verdict (servicesChecks q (flagsIn q) at) ≡ clear
-    own-verdict = alone q (flagsIn q) at own-fits own-id own-flags ∙ own-clear
+    own-verdict = alone q (flagsIn q) at own-fits own-id own-flags ∙ moved-clear at (verdict (sectionChecks own)) own-clear
 
   services-verdict : verdict (when (flagsIn q .«svc_info») (servicesChecks q (flagsIn q) (servicesAt q))) ≡ clear
   services-verdict =

@@ -57,8 +57,8 @@ refused-excused :
     → Excused e s
     → Unlisted (same p lent lent′) e (given v length shown s captions)
 refused-excused clear length shown s captions e p lent lent′ h = refl
-refused-excused (broken why) length shown s captions e p lent lent′ h =
-    rw (refused-not-done why) (sym (cleared-with e s) ∙ ap cleared h)
+refused-excused (broken rule) length shown s captions e p lent lent′ h =
+    rw (refused-not-done (rule .refusal)) (sym (cleared-with e s) ∙ ap cleared h)
 
 unlisted : (t : Twin) → Allowed OtherCaptions t → (e : Excepted) (s : CDPParser) → Excused e s
     → Unlisted t e (callShown s (firstOf t))
@@ -80,6 +80,7 @@ captions-alone (t ∷ ts) (a, as′) e s h =
     ap₂ _∷_
     (ap (λ (r : CDPParser). record {
       answer = first .answer;
+      place = first .place;
       parser = r;
       captions = withCaptions t (first .captions);
     }) kept)
@@ -110,7 +111,7 @@ services-alone (t ∷ ts) (a, as′) e s =
     let first : Shown = callShown s (firstOf t) in
     let next : Excepted = exceptedAfter t (first .answer) e in
     ap₂ _∷_
-    (ap (λ (c : List ℕ). record { answer = first .answer; parser = withList next (first .parser); captions = c })
+    (ap (λ (c : List ℕ). record { answer = first .answer; place = first .place; parser = withList next (first .parser); captions = c })
     (uncaptioned t a s))
     (services-alone ts as′ next (first .parser))
 

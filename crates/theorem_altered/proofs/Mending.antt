@@ -13,7 +13,7 @@ use Rattle.basis.proofs.Puts.{length-over}
 use Rattle.basis.proofs.Verdicts.{done-clear, kept-first, kept-rest}
 use Rattle.basis.specs.Answer.{InvalidFixedBits, LengthMismatch, WrongMagic, done}
 use Rattle.basis.specs.Bytes.{byte, over, part}
-use Rattle.basis.specs.Check.{Check, check, clear, sizeWhen, verdict}
+use Rattle.basis.specs.Check.{Check, checkAt, clear, sizeCheck, sizeWhen, verdict}
 use Rattle.basis.specs.Mask.{allSet, under, x0F, x80}
 use Rattle.values.specs.Flags.{flagsOf}
 use Rattle.values.specs.Layout.{servicesId, sectionLength, footerSize}
@@ -117,11 +117,11 @@ module _ (p : List ℕ) (accepted : verdict (packetChecks p) ≡ clear) (ends : 
     own-long : length section ≡ sectionLength (countOf section)
     unfolding sectionRead sectionChecks
     own-long =
-        let two : Check = check (leb 2 (length section)) (LengthMismatch 2 (length section)) in
-        let id : Check = check (eqb (byte section 0) servicesId) WrongMagic in
-        let bit : Check = check (allSet x80 (byte section 1)) InvalidFixedBits in
+        let two : Check = sizeCheck section 2 in
+        let id : Check = checkAt 0 (eqb (byte section 0) servicesId) WrongMagic in
+        let bit : Check = checkAt 1 (allSet x80 (byte section 1)) InvalidFixedBits in
         let size : Check =
-        check (eqb (length section) (sectionLength (countOf section)))
+        checkAt (length section) (eqb (length section) (sectionLength (countOf section)))
         (LengthMismatch (sectionLength (countOf section)) (length section)) in
         let all : verdict (sectionChecks section) ≡ clear =
         done-clear (verdict (sectionChecks section)) 0 (ap (λ (a : Answer). eqb (a .number) 0) wellFormed) in

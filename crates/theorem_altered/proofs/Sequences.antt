@@ -8,8 +8,8 @@ use borrow.Author.Tests.{le-leb}
 use lib.Dec.{eqb}
 use lib.ListN.{length, take}
 use Rattle.basis.proofs.Verdicts.{refused-not-done}
-use Rattle.basis.specs.Answer.{Refusal, done, refused}
-use Rattle.basis.specs.Check.{Verdict, answer, broken, clear, ifClear, verdict}
+use Rattle.basis.specs.Answer.{done, refused}
+use Rattle.basis.specs.Check.{RuleAt, Verdict, answer, broken, clear, ifClear, placeOf, verdict}
 use Rattle.reader.proofs.Refusals.{acceptance-hands-out}
 use Rattle.read_packet.specs.Packet.{captionsLength, packetChecks}
 use Rattle.reader.specs.Shown.{shownBy}
@@ -42,17 +42,26 @@ use Rattle.values.specs.Layout.{captionRoom}
 -- what a verdict on a packet shows, with room for captions
 abbrev pub given : Verdict → ℕ → CDPParser → CDPParser → List ℕ → Shown
 given v length shown s captions =
-    record { answer = answer v length; parser = ifClear v shown (cleared s); captions = ifClear v captions [] }
+    record {
+      answer = answer v length;
+      place = placeOf v;
+      parser = ifClear v shown (cleared s);
+      captions = ifClear v captions [];
+    }
 
 out : (v : Verdict) (length : ℕ) (buffer captions : List ℕ) → (v ≡ clear → take length buffer ≡ captions)
     → captionsShown (answer v length) buffer ≡ ifClear v captions []
 out clear length buffer captions h = h refl
-out (broken why) length buffer captions h = rw (refused-not-done why)
+out (broken rule) length buffer captions h = rw (refused-not-done (rule .refusal))
 
 module _ (s : CDPParser) (p lent : List ℕ) (room : captionRoom ≤ length lent) where
   answered : read s p (length lent) .answer ≡ answer (verdict (packetChecks p)) (captionsLength p)
   unfolding read
   answered = simp (le-leb _ _ room)
+
+  stands : read s p (length lent) .place ≡ placeOf (verdict (packetChecks p))
+  unfolding read
+  stands = simp (le-leb _ _ room)
 
   left : read s p (length lent) .parser ≡ ifClear (verdict (packetChecks p)) (shownBy p) (cleared s)
   unfolding read
@@ -67,10 +76,11 @@ module _ (s : CDPParser) (p lent : List ℕ) (room : captionRoom ≤ length lent
 
   pub reading-is : packetShown s p lent ≡ given (verdict (packetChecks p)) (captionsLength p) (shownBy p) s (captionsOf p)
   reading-is =
-      rw (answered, left)
+      rw (answered, stands, left)
       (ap
       (λ (c : List ℕ). record {
         answer = answer (verdict (packetChecks p)) (captionsLength p);
+        place = placeOf (verdict (packetChecks p));
         parser = ifClear (verdict (packetChecks p)) (shownBy p) (cleared s);
         captions = c;
       })
@@ -81,18 +91,18 @@ pub cleared-with : (e : Excepted) (s : CDPParser) → cleared (withList e s) ≡
 cleared-with nothing s = refl
 cleared-with (listIs l) s = refl
 
-abbrev refusing : Refusal → CDPParser → Shown
-refusing why s = record { answer = refused why; parser = s; captions = [] }
+abbrev refusing : RuleAt ℕ → CDPParser → Shown
+refusing rule s = record { answer = refused (rule .refusal); place = rule .place; parser = s; captions = [] }
 
 stays : (v : Verdict) (length : ℕ) (shown s : CDPParser) (captions : List ℕ) (e : Excepted) (p lent lent′ : List ℕ)
     → given v length shown (withList e s) captions
     ≡ saveBoth (same p lent lent′) (exceptedAfter (same p lent lent′) (answer v length) e)
     (given v length shown s captions)
 stays clear length shown s captions e p lent lent′ = refl
-stays (broken why) length shown s captions e p lent lent′ =
-    ap (refusing why) (cleared-with e s)
-    ∙ ap (λ (accepted : Bool). refusing why (withList (cond accepted nothing e) (cleared s)))
-    (sym (refused-not-done why))
+stays (broken rule) length shown s captions e p lent lent′ =
+    ap (refusing rule) (cleared-with e s)
+    ∙ ap (λ (accepted : Bool). refusing rule (withList (cond accepted nothing e) (cleared s)))
+    (sym (refused-not-done (rule .refusal)))
 
 differs : (p q lent lent′ : List ℕ) (a : Altered p q) (e : Excepted) (s : CDPParser)
     → given (verdict (packetChecks q)) (captionsLength q) (shownBy q) (withList e s) (captionsOf q)

@@ -14,10 +14,11 @@ pub data Call : Type 0 where
   packet : List ℕ → List ℕ → Call
   flush : Call
 
--- what a call shows: its answer with the two numbers; rate, time code, sequence, service list and caption-active mark; the
--- captions
+-- what a call shows: its answer with the two numbers, and its place; rate, time code, sequence, service list and
+-- caption-active mark; the captions
 pub record Shown : Type 0 where
   pub answer : Answer
+  pub place : ℕ
   pub parser : CDPParser
   pub captions : List ℕ
 
@@ -30,6 +31,7 @@ abbrev pub packetShown : CDPParser → List ℕ → List ℕ → Shown
 packetShown s p buffer =
     record {
       answer = read s p (length buffer) .answer;
+      place = read s p (length buffer) .place;
       parser = read s p (length buffer) .parser;
       captions = captionsShown (read s p (length buffer) .answer) (bufferAfter p buffer);
     }
@@ -37,7 +39,7 @@ packetShown s p buffer =
 -- a flush, by the contract of CDPParser::flush; it has no answer of its own
 abbrev pub callShown : CDPParser → Call → Shown
 callShown s (packet p buffer) = packetShown s p buffer
-callShown s flush = record { answer = done 0; parser = flushedReader s; captions = [] }
+callShown s flush = record { answer = done 0; place = 0; parser = flushedReader s; captions = [] }
 
 -- one call after the other, each on the state that the one before it left
 abbrev pub runCalls : CDPParser → List Call → List Shown

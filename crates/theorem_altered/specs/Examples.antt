@@ -57,6 +57,10 @@ abbrev pub answers : List Shown → List Answer
 answers [] = []
 answers (a ∷ shown) = a .answer ∷ answers shown
 
+abbrev pub placed : List Shown → List ℕ
+placed [] = []
+placed (a ∷ shown) = a .place ∷ placed shown
+
 abbrev pub lists : List Shown → List MaybeServiceInfo
 lists [] = []
 lists (a ∷ shown) = a .parser .«service_info» ∷ lists shown
@@ -78,6 +82,9 @@ pub record Examples : Type 0 where
       ≡ done 5 ∷ refused ChecksumFailed ∷ done 0 ∷ []
   pub answeredAfter : answers (runCalls freshReader (calls secondOf (examplesTwins withSpanish)))
       ≡ done 5 ∷ refused ChecksumFailed ∷ done 0 ∷ []
+  -- so are the places: the refused checksum is the last byte
+  pub stood : placed (runCalls freshReader (calls firstOf (examplesTwins withSpanish))) ≡ 0 ∷ 29 ∷ 0 ∷ []
+  pub stoodAfter : placed (runCalls freshReader (calls secondOf (examplesTwins withSpanish))) ≡ 0 ∷ 29 ∷ 0 ∷ []
   pub listed : lists (runCalls freshReader (calls firstOf (examplesTwins withSpanish)))
       ≡ listPresent (listOf english) ∷ listPresent (listOf english) ∷ listAbsent ∷ []
   pub listedAfter : lists (runCalls freshReader (calls secondOf (examplesTwins withSpanish)))

@@ -72,14 +72,14 @@ withCaptions (altered p q lent lent′) captions = newCaptions p q
 
 -- what one call shows: the same, save list and captions
 abbrev pub saveBoth : Twin → Excepted → Shown → Shown
-saveBoth t e a = record { answer = a .answer; parser = withList e (a .parser); captions = withCaptions t (a .captions) }
+saveBoth t e a = record { answer = a .answer; place = a .place; parser = withList e (a .parser); captions = withCaptions t (a .captions) }
 
 -- save captions alone; save the list alone
 abbrev pub saveCaptions : Twin → Excepted → Shown → Shown
-saveCaptions t e a = record { answer = a .answer; parser = a .parser; captions = withCaptions t (a .captions) }
+saveCaptions t e a = record { answer = a .answer; place = a .place; parser = a .parser; captions = withCaptions t (a .captions) }
 
 abbrev pub saveList : Twin → Excepted → Shown → Shown
-saveList t e a = record { answer = a .answer; parser = withList e (a .parser); captions = a .captions }
+saveList t e a = record { answer = a .answer; place = a .place; parser = withList e (a .parser); captions = a .captions }
 
 -- what the second sequence shows, call by call, made of what the first one shows
 abbrev pub after : (Twin → Excepted → Shown → Shown) → List Twin → Excepted → List Shown → List Shown

@@ -8,7 +8,7 @@ use Prim.Native.Nat.{ℕ}
 use borrow.Author.Tests.{le-leb}
 use Rattle.basis.proofs.Puts.{over-nil}
 use Rattle.basis.specs.Bytes.{over}
-use Rattle.basis.specs.Check.{Verdict, answer, broken, clear, ifClear, verdict}
+use Rattle.basis.specs.Check.{Verdict, answer, broken, clear, ifClear, placeOf, verdict}
 use Rattle.values.specs.Rate.{fromId}
 use Rattle.values_time.specs.Time.{digits, timeRead}
 use Rattle.service_entry.specs.Entry.{entryRead}
@@ -27,16 +27,16 @@ use Rattle.reader.specs.declared.parser.CDPParser.{CDPParser}
 -- a verdict beside which nothing is handed out leaves a buffer as it was
 stays : (v : Verdict) (buffer : List ℕ) → ifClear v (over 0 [] buffer) buffer ≡ buffer
 stays clear buffer = over-nil 0 buffer
-stays (broken why) buffer = refl
+stays (broken rule) buffer = refl
 
 -- reading a packet with no captions comes to what rules 2 to 9 say of it
-reads : {p : List ℕ} {answered : Answer} {after : CDPParser → CDPParser} → flagsIn p .«cc_data» ≡ false
-    → answer (verdict (packetChecks p)) 0 ≡ answered
-    → ((s : CDPParser) → ifClear (verdict (packetChecks p)) (shownBy p) (cleared s) ≡ after s) → Reads p answered after
+reads : {p : List ℕ} {answered : Answer} {at : ℕ} {after : CDPParser → CDPParser} → flagsIn p .«cc_data» ≡ false
+    → answer (verdict (packetChecks p)) 0 ≡ answered → placeOf (verdict (packetChecks p)) ≡ at
+    → ((s : CDPParser) → ifClear (verdict (packetChecks p)) (shownBy p) (cleared s) ≡ after s) → Reads p answered at after
 unfolding read bufferAfter
-reads {p} none answers leaves =
+reads {p} none answers stands leaves =
     record {
-      gives = λ s buffer room. simp (le-leb _ _ room, none, answers, leaves s);
+      gives = λ s buffer room. simp (le-leb _ _ room, none, answers, stands, leaves s);
       keeps = λ buffer room. simp (le-leb _ _ room, none) (stays (verdict (packetChecks p)) buffer);
     }
 
@@ -45,15 +45,15 @@ unfolding packetChecks shownBy closingChecks fromId timeRead digits entryRead se
     filled packetWritten packetBytes
 cases =
     record {
-      p1 = reads refl refl (λ s. refl);
-      p2 = reads refl refl (λ s. refl);
-      p3 = reads refl refl (λ s. refl);
-      p4 = reads refl refl (λ s. refl);
-      p5 = reads refl refl (λ s. refl);
-      p6 = λ last. reads refl refl (λ s. refl);
-      p7 = reads refl refl (λ s. refl);
+      p1 = reads refl refl refl (λ s. refl);
+      p2 = reads refl refl refl (λ s. refl);
+      p3 = reads refl refl refl (λ s. refl);
+      p4 = reads refl refl refl (λ s. refl);
+      p5 = reads refl refl refl (λ s. refl);
+      p6 = λ last. reads refl refl refl (λ s. refl);
+      p7 = reads refl refl refl (λ s. refl);
       p8 = λ minutes seconds frames h. rw h;
-      p8-packet = reads refl refl (λ s. refl);
+      p8-packet = reads refl refl refl (λ s. refl);
       p9 = refl;
       p10 = refl;
       p10-field-2 = refl;

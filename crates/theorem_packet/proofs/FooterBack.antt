@@ -16,7 +16,7 @@ use Rattle.read_closing.specs.Closing.{checksumOf, closingChecks}
 use Rattle.read_closing.specs.Code.{closingRead}
 use Rattle.write_bytes.specs.PacketWriting.{footerBytes}
 use Rattle.basis.proofs.Places.{byte-on}
-use Rattle.basis.specs.declared.answer.Answer.{Answer}
+use Rattle.basis.specs.declared.tested.Outcome.{Outcome}
 
 module _ (p : List ℕ) (i sequence sum : ℕ) (h : drop i p ≡ footerBytes sequence ++ sum ∷ [])
     (size : length p ≡ i + footerSize) (right : sum ≡ checksumOf p) where
@@ -34,4 +34,4 @@ module _ (p : List ℕ) (i sequence sum : ℕ) (h : drop i p ≡ footerBytes seq
   closing-clear =
       let whole = footer-whole p sequence i (omega (arith, size)) same (byte-on p i bytes h 3 ∙ right) in
       let read = whole ∙ footer-reached p sequence i i (begins p sequence i (omega (arith, size))) id in
-      done-clear (verdict (closingChecks p sequence i)) 0 (ap (λ (a : Answer). eqb (a .number) 0) (sym read))
+      done-clear (verdict (closingChecks p sequence i)) 0 (ap (λ (o : Outcome). eqb (o .answer .number) 0) (sym read))

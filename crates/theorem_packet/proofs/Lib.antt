@@ -9,3 +9,4 @@ pub mod Cases
 pub mod Proper
 pub mod FirstDemand
 pub mod Refused
+pub mod Places

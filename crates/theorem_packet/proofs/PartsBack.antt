@@ -7,12 +7,12 @@ use mathlib.Core.Path.{_≡_, refl, ap}
 use Prim.Native.Nat.{ℕ, _+_, _≤_}
 use lib.Dec.{eqb}
 use lib.ListN.{drop, length}
-use Rattle.basis.specs.Check.{Verdict, answer, clear, sizeWhen, verdict, when}
+use Rattle.basis.specs.Check.{WriteVerdict, answer, clear, sizeWhen, verdict, when}
 use Rattle.values.specs.Layout.{timeCodeId, sectionLength, timeCodeSize}
 use Rattle.values_time.specs.Time.{timeBytes, timePresent, timeWriteChecks}
 use Rattle.service_list.proofs.SectionBack.{named}
 use Rattle.service_list.proofs.SectionWrites.{value-done}
-use Rattle.service_list.specs.SectionBack.{Ready, allOfThree, namesFieldTwo}
+use Rattle.service_list.specs.SectionBack.{Ready, allOfThree, beforeFieldTwo, namesFieldTwo}
 use Rattle.service_list.specs.ServiceList.{listAbsent, listPresent}
 use Rattle.service_list.specs.SectionWriting.{counted, sectionBytes, valueChecks}
 use Rattle.service_list.specs.Code.{valueAnswer}
@@ -42,11 +42,12 @@ time-here p i false t rest h right fits = record { right = refl; shown = refl }
 ready : (l : ServiceInfo) → verdict (valueChecks l) ≡ clear → Ready l
 unfolding valueAnswer
 ready l right =
-    let both = value-done l (ap (λ (v : Verdict). eqb (answer v 0 .number) 0) right) in
+    let both = value-done l (ap (λ (v : WriteVerdict). eqb (answer v 0 .number) 0) right) in
     record { count = both .0; numbers = both .1 }
 
 pub record ServicesHere (p : List ℕ) (i : ℕ) (f : Flags) (present : Bool) (l : ServiceInfo) : Type 0 where
-  pub answered : verdict (when present (servicesChecks p f i)) ≡ named (present && namesFieldTwo (counted l))
+  pub answered : verdict (when present (servicesChecks p f i))
+      ≡ named (present && namesFieldTwo (counted l)) (i + sectionLength (beforeFieldTwo (counted l)))
   pub shown : (present ≡ true → allOfThree (counted l) ≡ true)
       → servicesOf p present i ≡ cond present (listPresent (listBack l)) listAbsent
   pub size : sizeWhen present (servicesSize p i) ≡ sizeWhen present (sectionLength (l .count))

@@ -2,17 +2,16 @@
 -- Assumes nothing.
 use mathlib.Core.Bool.{Bool, true, false, cond, not}
 use mathlib.Core.List.{List, [], _∷_, _++_}
-use mathlib.Core.Path.{_≡_, _∙_, refl, sym, ap}
+use mathlib.Core.Path.{_≡_, refl, sym, ap}
 use Prim.Native.Nat.{ℕ, zero, suc, _+_, _≤_, _<_}
 use native.Mathlib.Omega.{arith}
 use borrow.Author.Tests.{eqb-false, leb-false, leb-true, lt-ltb, ne-eqb}
-use lib.Dec.{eqb}
-use lib.ListN.{drop, length, length-drop}
-use lib.Seq.{length-take-le}
-use Rattle.basis.proofs.Verdicts.{andThen, verdict-append}
+use lib.Dec.{eqb, leb}
+use lib.ListN.{length}
+use Rattle.basis.proofs.Holds.{Holds, also, both, fixed, none, unless-found, where-there, wherever}
 use Rattle.basis.specs.Answer.{InvalidFixedBits, InvalidServiceNumber, Refusal, WouldOverflow, refused}
 use Rattle.basis.specs.Bytes.{byte}
-use Rattle.basis.specs.Check.{Check, Verdict, broken, check, clear, roomCheck, sizeCheck, verdict, when}
+use Rattle.basis.specs.Check.{Check, CheckOf, RuleAt, WriteCheck, check, checkAt, moved, roomCheck, sizeCheck, when}
 use Rattle.basis.specs.Mask.{allClear, allSet, x3E, x3F, x80}
 use Rattle.values.specs.Layout.{footerId, sectionLength, captionRoom, footerSize, sectionEntrySize, timeCodeSize}
 use Rattle.values_time.specs.Time.{timeChecks, timeWriteChecks}
@@ -23,7 +22,7 @@ use Rattle.service_list.specs.SectionWriting.{counted, entryWriteChecks, valueC
 use Rattle.read_header.specs.Header.{flagsIn, headerChecks, sequenceIn}
 use Rattle.read_time_code.specs.TimeCode.{timeCodeChecks}
 use Rattle.read_captions.specs.Captions.{captionsChecks, captionsSize}
-use Rattle.read_services.proofs.ServicesReads.{count-at}
+use Rattle.read_services.proofs.ServicesReads.{as-long}
 use Rattle.read_services.specs.Services.{servicesPart, servicesChecks, servicesSize}
 use Rattle.read_closing.specs.Closing.{closingChecks, footerChecks, footerFrom, futureChecks, futureLength}
 use Rattle.read_packet.specs.Packet.{timeCodeAt, captionsAt, closingAt, packetChecks, servicesAt}
@@ -39,59 +38,26 @@ use Rattle.values_time.specs.declared.time.TimeCode.{TimeCode}
 use Rattle.values.specs.declared.flags.Flags.{Flags}
 use Rattle.values.specs.declared.framerate.Framerate.{Framerate}
 
--- a verdict that refuses, if it does, as the table has it, with these two values beside 1
-abbrev pub fine : (ℕ → ℕ → Bool) → Verdict → Bool
-fine beside clear = true
-fine beside (broken why) = refusalInTable beside (refused why)
+-- a rule that refuses as the table has it, with these two values beside 1
+abbrev pub proper : {P : Type 0} → (ℕ → ℕ → Bool) → RuleAt P → Bool
+proper beside rule = refusalInTable beside (refused (rule .refusal))
 
-pub record Proper (beside : ℕ → ℕ → Bool) (cs : List Check) : Type 0 where
-  pub is-fine : fine beside (verdict cs) ≡ true
+-- so does the first of these checks that is broken
+abbrev pub Proper : {P : Type 0} → (ℕ → ℕ → Bool) → List (CheckOf P) → Type 0
+Proper beside cs = Holds (proper beside) cs
 
--- The law: each check that is broken, those before it kept, has a refusal that stands in the table.
-first-broken : (beside : ℕ → ℕ → Bool) (kept : Bool) (why : Refusal) (v : Verdict)
-    → (kept ≡ false → refusalInTable beside (refused why) ≡ true)
-    → (kept ≡ true → fine beside v ≡ true) → fine beside (cond kept v (broken why)) ≡ true
-first-broken beside true why v here behind = behind refl
-first-broken beside false why v here behind = here refl
+-- a lent buffer is too short with less than is needed
+short : (needed lent : ℕ) → leb needed lent ≡ false → smaller needed lent ≡ true
+short needed lent k = lt-ltb lent needed (leb-false needed lent k)
 
-one-by-one : (beside : ℕ → ℕ → Bool) (v w : Verdict) → fine beside v ≡ true → fine beside w ≡ true
-    → fine beside (andThen v w) ≡ true
-one-by-one beside clear w a b = b
-one-by-one beside (broken why) w a b = a
-
-module _ {beside : ℕ → ℕ → Bool} where
-  pub none : Proper beside []
-  none = record { is-fine = refl }
-
-  also : {c : Check} {cs : List Check} → (c .kept ≡ false → refusalInTable beside (refused (c .refusal)) ≡ true)
-      → (c .kept ≡ true → Proper beside cs)
-      → Proper beside (c ∷ cs)
-  also {c} {cs} here behind =
-      record { is-fine = first-broken beside (c .kept) (c .refusal) (verdict cs) here (λ k. behind k .is-fine) }
-
-  -- a check whose refusal has the same two values always
-  fixed : {kept : Bool} {why : Refusal} {cs : List Check} → refusalInTable beside (refused why) ≡ true
-      → Proper beside cs → Proper beside (check kept why ∷ cs)
-  fixed here behind = also (λ _. here) (λ _. behind)
-
-  both : (xs ys : List Check) → Proper beside xs → Proper beside ys → Proper beside (xs ++ ys)
-  both xs ys a b =
-      record {
-        is-fine = rw (verdict-append xs ys) (one-by-one beside (verdict xs) (verdict ys) (a .is-fine) (b .is-fine));
-      }
-
-  pub where-there : (present : Bool) {cs : List Check} → Proper beside cs → Proper beside (when present cs)
-  where-there true a = a
-  where-there false a = none
-
-  -- a lent buffer is too short with less than is needed
-  pub room : (needed lent : ℕ) {cs : List Check} → Proper beside cs → Proper beside (roomCheck needed lent ∷ cs)
-  room needed lent behind = also (λ k. lt-ltb lent needed (leb-false needed lent k)) (λ _. behind)
+pub room : (beside : ℕ → ℕ → Bool) (needed lent : ℕ) {cs : List WriteCheck} → Proper beside cs
+    → Proper beside (roomCheck needed lent ∷ cs)
+room beside needed lent later = also (short needed lent) (λ _. later)
 
 -- the same behind all that a writer tests
-pub with-room : {beside : ℕ → ℕ → Bool} {cs : List Check} → Proper beside cs → (needed : ℕ) (buffer : List ℕ)
+pub with-room : (beside : ℕ → ℕ → Bool) (cs : List WriteCheck) → Proper beside cs → (needed : ℕ) (buffer : List ℕ)
     → Proper beside (cs ++ roomCheck needed (length buffer) ∷ [])
-with-room {cs = cs} a needed buffer = both cs _ a (room needed (length buffer) none)
+with-room beside cs a needed buffer = both cs _ a (room beside needed (length buffer) none)
 
 -- what stands beside 1 where less is met than at least so many bytes
 abbrev pub Shorter : (ℕ → ℕ → Bool) → Type 0
@@ -107,15 +73,19 @@ pub shorter-smaller : Shorter smaller
 shorter-smaller expected met h = lt-ltb met expected h
 
 -- rules that answer no 1: a time code's four bytes, an entry; and all that a writer tests
-module _ {beside : ℕ → ℕ → Bool} where
+module _ (beside : ℕ → ℕ → Bool) where
   pub time-proper : (hours minutes seconds frames : ℕ) → Proper beside (timeChecks hours minutes seconds frames)
   time-proper hours minutes seconds frames = fixed refl (fixed refl (fixed refl none))
 
   -- E2: both refusals of the kind byte are fixed ones
   kind : (digital kept kept′ : Bool) {cs : List Check} → Proper beside cs
-      → Proper beside (cond digital (check kept InvalidServiceNumber) (check kept′ InvalidFixedBits) ∷ cs)
-  kind true kept kept′ behind = fixed refl behind
-  kind false kept kept′ behind = fixed refl behind
+      → Proper beside (cond digital (checkAt 3 kept InvalidServiceNumber) (checkAt 3 kept′ InvalidFixedBits) ∷ cs)
+  kind true kept kept′ later = fixed refl later
+  kind false kept kept′ later = fixed refl later
+
+  -- a part's checks are the same wherever it stands
+  part : (from : ℕ) (cs : List Check) → Proper beside cs → Proper beside (moved from cs)
+  part from cs a = wherever (λ (why : Refusal). refusalInTable beside (refused why)) from cs a
 
   pub entry-proper : (e : List ℕ) → Proper beside (entryChecks e)
   entry-proper e =
@@ -125,12 +95,16 @@ module _ {beside : ℕ → ℕ → Bool} where
 
   at-proper : (d : List ℕ) (at : ℕ) → Proper beside (checksAt d at)
   at-proper d at =
-      fixed refl (fixed refl (both (entryChecks (sixBehind d at)) _ (entry-proper (sixBehind d at)) (fixed refl none)))
+      fixed refl
+      (fixed refl
+      (both (moved 1 (entryChecks (sixBehind d at))) _ (part 1 (entryChecks (sixBehind d at)) (entry-proper (sixBehind d at)))
+      (fixed refl none)))
 
   entries-proper : (d : List ℕ) (at n : ℕ) → Proper beside (entryListChecks d at n)
   entries-proper d at zero = none
   entries-proper d at (suc n) =
-      both (checksAt d at) (entryListChecks d (at + sectionEntrySize) n) (at-proper d at) (entries-proper d (at + sectionEntrySize) n)
+      both (moved at (checksAt d at)) (entryListChecks d (at + sectionEntrySize) n) (part at (checksAt d at) (at-proper d at))
+      (entries-proper d (at + sectionEntrySize) n)
 
   pub time-write-proper : (t : TimeCode) → Proper beside (timeWriteChecks t)
   time-write-proper t = fixed refl (fixed refl (fixed refl (fixed refl none)))
@@ -161,15 +135,18 @@ module _ {beside : ℕ → ℕ → Bool} where
       (where-there (services .present) (value-proper (services .«service_info»)))))
 
 -- rules that answer 1 where bytes are missing: the parts of a packet behind its header
-module _ {beside : ℕ → ℕ → Bool} (shorter : Shorter beside) where
+module _ (beside : ℕ → ℕ → Bool) (shorter : Shorter beside) where
   size : (p : List ℕ) (least : ℕ) {cs : List Check} → (least ≤ length p → Proper beside cs)
       → Proper beside (sizeCheck p least ∷ cs)
-  size p least behind =
-      also (λ k. shorter least (length p) (leb-false least (length p) k)) (λ k. behind (leb-true least (length p) k))
+  size p least later =
+      also (λ k. shorter least (length p) (leb-false least (length p) k)) (λ k. later (leb-true least (length p) k))
 
   pub time-code-proper : (p : List ℕ) (i : ℕ) → Proper beside (timeCodeChecks p i)
   time-code-proper p i =
-      size p (i + timeCodeSize) (λ _. fixed refl (time-proper (byte p (i + 1)) (byte p (i + 2)) (byte p (i + 3)) (byte p (i + 4))))
+      let four : List Check = timeChecks (byte p (i + 1)) (byte p (i + 2)) (byte p (i + 3)) (byte p (i + 4)) in
+      size p (i + timeCodeSize)
+      (λ _. fixed refl
+      (part beside (i + 1) four (time-proper beside (byte p (i + 1)) (byte p (i + 2)) (byte p (i + 3)) (byte p (i + 4)))))
 
   pub captions-proper : (p : List ℕ) (i : ℕ) → Proper beside (captionsChecks p i)
   captions-proper p i = size p (i + 2) (λ _. fixed refl (fixed refl (size p (i + captionsSize p i) (λ _. none))))
@@ -183,27 +160,17 @@ module _ {beside : ℕ → ℕ → Bool} (shorter : Shorter beside) where
       size d 2
       (λ _. fixed refl
       (fixed refl
-      (also (λ k. other (λ e. eqb-false _ _ k (sym e))) (λ _. entries-proper d 2 (countOf d)))))
-
-  -- in a packet its bytes are as many as it says, so that S4 refuses none
-  as-long : (p : List ℕ) (i : ℕ) → i + servicesSize p i ≤ length p
-      → sectionLength (countOf (servicesPart p i)) ≡ length (servicesPart p i)
-  as-long p i fits =
-      let long : length (servicesPart p i) ≡ servicesSize p i =
-      length-take-le (servicesSize p i) (drop i p) (omega (arith, length-drop i p)) in
-      ap sectionLength (count-at p i) ∙ sym long
+      (also (λ k. other (λ e. eqb-false _ _ k (sym e))) (λ _. entries-proper beside d 2 (countOf d)))))
 
   pub services-proper : (p : List ℕ) (f : Flags) (i : ℕ) → Proper beside (servicesChecks p f i)
   services-proper p f i =
       size p (i + 2)
       (λ _. fixed refl
       (size p (i + servicesSize p i)
-      (λ fits. both (sectionChecks (servicesPart p i)) _
-      (section (servicesPart p i) (λ other. absurd (other (as-long p i fits)))) (fixed refl none))))
-
-  unless-found : (found : Bool) {cs : List Check} → Proper beside cs → Proper beside (cond found [] cs)
-  unless-found true a = none
-  unless-found false a = a
+      (λ fits. both (moved i (sectionChecks (servicesPart p i))) _
+      (part beside i (sectionChecks (servicesPart p i))
+      (section (servicesPart p i) (λ other. absurd (other (sym (as-long p i fits))))))
+      (fixed refl none))))
 
   future-proper : (turns : ℕ) (p : List ℕ) (i : ℕ) → Proper beside (futureChecks turns p i)
   future-proper zero p i = none
@@ -223,11 +190,11 @@ module _ {beside : ℕ → ℕ → Bool} (shorter : Shorter beside) where
 
 -- rules that answer 1 where a size is another than what is said: a section alone, the header, and so a packet
 pub section-proper : (d : List ℕ) → Proper differ (sectionChecks d)
-section-proper d = section shorter-differs d (differs (sectionLength (countOf d)) (length d))
+section-proper d = section differ shorter-differs d (differs (sectionLength (countOf d)) (length d))
 
 pub header-proper : (p : List ℕ) → Proper differ (headerChecks p)
 header-proper p =
-    size shorter-differs p 11
+    size differ shorter-differs p 11
     (λ _. fixed refl
     (also (λ k. differs (byte p 2) (length p) (eqb-false (byte p 2) (length p) k)) (λ _. fixed refl none)))
 
@@ -240,10 +207,10 @@ packet-proper p =
     let services : List Check = when (f .«svc_info») (servicesChecks p f (servicesAt p)) in
     let closing : List Check = closingChecks p (sequenceIn p) (closingAt p) in
     both (headerChecks p) (time ++ (captions ++ (services ++ closing))) (header-proper p)
-    (both time (captions ++ (services ++ closing)) (where-there (f .«time_code») (time-code-proper shorter-differs p timeCodeAt))
-    (both captions (services ++ closing) (where-there (f .«cc_data») (captions-proper shorter-differs p (captionsAt p)))
-    (both services closing (where-there (f .«svc_info») (services-proper shorter-differs p f (servicesAt p)))
-    (closing-proper shorter-differs p (sequenceIn p) (closingAt p)))))
+    (both time (captions ++ (services ++ closing)) (where-there (f .«time_code») (time-code-proper differ shorter-differs p timeCodeAt))
+    (both captions (services ++ closing) (where-there (f .«cc_data») (captions-proper differ shorter-differs p (captionsAt p)))
+    (both services closing (where-there (f .«svc_info») (services-proper differ shorter-differs p f (servicesAt p)))
+    (closing-proper differ shorter-differs p (sequenceIn p) (closingAt p)))))
 
 pub read-proper : (p : List ℕ) (lent : ℕ) → Proper differ (readChecks p lent)
-read-proper p lent = room captionRoom lent (packet-proper p)
+read-proper p lent = also (short captionRoom lent) (λ _. packet-proper p)

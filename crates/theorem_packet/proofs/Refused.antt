@@ -35,13 +35,13 @@ beside {A} v length value other h = sym (refused-shows (λ (a : Answer) (x : A).
 
 unless : {A : Type 0} (v : Verdict) (value other : A) → (v ≡ clear → ⊥) → ifClear v value other ≡ other
 unless clear value other h = absurd (h refl)
-unless (broken why) value other h = refl
+unless (broken rule) value other h = refl
 
 -- a packet that is refused before its list is made has no time code
 no-time-code : (v : Verdict) (length : ℕ) (shown : Checked) → eqb (shown .answer .number) 0 ≡ true
     → refuses (given v length shown .answer) → given v length shown .«time_code» ≡ Time.timeAbsent
 no-time-code clear length shown done-so h = absurd (true≢false (sym done-so ∙ h))
-no-time-code (broken why) length shown done-so h = refl
+no-time-code (broken rule) length shown done-so h = refl
 
 pub nothing-from-refused : NothingFromRefused
 unfolding Entry.entryRead ServiceEntries.entriesRead Section.sectionRead ReaderCode.packetRead Time.timeRead

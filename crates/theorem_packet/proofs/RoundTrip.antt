@@ -11,7 +11,7 @@ use lib.ListN.{drop, length, length-take, take}
 use Rattle.basis.proofs.Verdicts.{and-clear}
 use Rattle.basis.specs.Answer.{ServiceNumberMismatch, refused}
 use Rattle.basis.specs.Bytes.{over}
-use Rattle.basis.specs.Check.{answer, clear, ifClear, sizeWhen, verdict, when}
+use Rattle.basis.specs.Check.{answer, clear, ifClear, placeOf, sizeWhen, verdict, when}
 use Rattle.values.specs.Checksum.{negative, total}
 use Rattle.values.specs.Rate.{present}
 use Rattle.basis.proofs.Writes.{first-bytes}
@@ -53,6 +53,7 @@ use Rattle.theorem_packet.specs.RoundTrip.{
   ReadBack,
   captionsBack,
   fieldTwo,
+  fieldTwoAt,
   servicesBack,
   shownBack,
   writtenPacket,
@@ -203,7 +204,7 @@ module _ (w : CDPWriter) (rate : Framerate) (captions : List ℕ)
       at-services (holds .served) (omega (arith, long))
 
   services-right : verdict (when (flagsIn p .«svc_info») (servicesChecks p (flagsIn p) (servicesAt p)))
-      ≡ named (fieldTwo (w .«service_info»))
+      ≡ named (fieldTwo (w .«service_info»)) (fieldTwoAt w captions)
   services-right =
       ap₂ (λ (f : Flags) (i : ℕ). verdict (when (f .«svc_info») (servicesChecks p f i))) flags services-at
       ∙ services .answered
@@ -227,8 +228,8 @@ module _ (w : CDPWriter) (rate : Framerate) (captions : List ℕ)
       ap₂ (λ (s i : ℕ). verdict (closingChecks p s i)) sequence footer-at
       ∙ closing-clear p footerFrom (w .sequence) sum at-footer long sum-right
 
-  -- the whole packet: clear, or 7 where field 2 is named
-  packet-verdict : verdict (packetChecks p) ≡ named (fieldTwo (w .«service_info»))
+  -- the whole packet: clear, or 7 where field 2 is named, at the first header byte that does
+  packet-verdict : verdict (packetChecks p) ≡ named (fieldTwo (w .«service_info»)) (fieldTwoAt w captions)
   packet-verdict =
       in-order p
       ∙ rw (
@@ -238,7 +239,7 @@ module _ (w : CDPWriter) (rate : Framerate) (captions : List ℕ)
         services-right,
         footer-right,
       )
-      (and-clear (named (fieldTwo (w .«service_info»))))
+      (and-clear (named (fieldTwo (w .«service_info»)) (fieldTwoAt w captions)))
 
   shown : Languages w → shownBy p ≡ shownBack w rate
   unfolding shownBy
@@ -251,14 +252,15 @@ module _ (w : CDPWriter) (rate : Framerate) (captions : List ℕ)
   module _ (s : CDPParser) (lent : List ℕ) (room : captionRoom ≤ length lent) where
     got : read s p (length lent)
         ≡ record {
-          answer = answer (named (fieldTwo (w .«service_info»))) (2 + run);
-          parser = ifClear (named (fieldTwo (w .«service_info»))) (shownBy p) (cleared s);
+          answer = answer (named (fieldTwo (w .«service_info»)) (fieldTwoAt w captions)) (2 + run);
+          place = placeOf (named (fieldTwo (w .«service_info»)) (fieldTwoAt w captions));
+          parser = ifClear (named (fieldTwo (w .«service_info»)) (fieldTwoAt w captions)) (shownBy p) (cleared s);
         }
     unfolding read
     got = simp (le-leb captionRoom (length lent) room, packet-verdict, captions-long)
 
     after : bufferAfter p lent
-        ≡ ifClear (named (fieldTwo (w .«service_info»))) (over 0 (captionsBack captions) lent) lent
+        ≡ ifClear (named (fieldTwo (w .«service_info»)) (fieldTwoAt w captions)) (over 0 (captionsBack captions) lent) lent
     unfolding bufferAfter
     after = simp (le-leb captionRoom (length lent) room, packet-verdict, captions-handed)
 
@@ -291,13 +293,14 @@ module _ (w : CDPWriter) (rate : Framerate) (captions buffer : List ℕ)
 
     reads : read s packet (length lent)
         ≡ record {
-          answer = answer (named (fieldTwo (w .«service_info»))) (2 + length captions);
-          parser = ifClear (named (fieldTwo (w .«service_info»))) (shownBy packet) (cleared s);
+          answer = answer (named (fieldTwo (w .«service_info»)) (fieldTwoAt w captions)) (2 + length captions);
+          place = placeOf (named (fieldTwo (w .«service_info»)) (fieldTwoAt w captions));
+          parser = ifClear (named (fieldTwo (w .«service_info»)) (fieldTwoAt w captions)) (shownBy packet) (cleared s);
         }
     reads = rw written-is (got w rate captions right-so s lent room)
 
     leaves : bufferAfter packet lent
-        ≡ ifClear (named (fieldTwo (w .«service_info»))) (over 0 (captionsBack captions) lent) lent
+        ≡ ifClear (named (fieldTwo (w .«service_info»)) (fieldTwoAt w captions)) (over 0 (captionsBack captions) lent) lent
     leaves = rw written-is (after w rate captions right-so s lent room)
 
     -- Writing was answered 0, and no counted entry of a held list names field 2: reading what was written, on any
@@ -311,8 +314,9 @@ module _ (w : CDPWriter) (rate : Framerate) (captions buffer : List ℕ)
           handed = leaves ∙ rw none;
         }
 
-    -- Where a counted entry of a held list names field 2, reading is answered 7, and refuses as it refuses any packet.
+    -- Where a counted entry of a held list names field 2, reading is answered 7 at the first header byte that does, and
+    -- refuses as it refuses any packet.
     pub field-two-answered-7 : fieldTwo (w .«service_info») ≡ true
-        → (read s packet (length lent) ≡ record { answer = refused ServiceNumberMismatch; parser = cleared s })
+        → (read s packet (length lent) ≡ record { answer = refused ServiceNumberMismatch; place = fieldTwoAt w captions; parser = cleared s })
         × (bufferAfter packet lent ≡ lent)
     field-two-answered-7 some = (reads ∙ rw some, leaves ∙ rw some)

@@ -10,16 +10,24 @@ use borrow.Author.Tests.{eq-eqb, le-leb, leb-true}
 use lib.Dec.{eqb, leb}
 use lib.ListN.{drop, getD, length}
 use Rattle.values_time.proofs.TimeWrites.{time-back}
-use Rattle.basis.proofs.Verdicts.{done-clear, done-value, kept-first, kept-rest}
+use Rattle.basis.proofs.Verdicts.{
+  done-clear,
+  done-value,
+  kept-first,
+  kept-rest,
+  moved-clear,
+  movedVerdict,
+  verdict-moved,
+}
 use Rattle.basis.specs.Answer.{NotWritable}
 use Rattle.basis.specs.Bytes.{byte}
-use Rattle.basis.specs.Check.{Check, check, clear, verdict}
+use Rattle.basis.specs.Check.{Check, WriteCheck, check, clear, verdict}
 use Rattle.values.specs.Layout.{captionsId, servicesId, timeCodeId, sectionLength, timeCodeSize}
 use Rattle.values_time.specs.Time.{noTime, timeBytes, timeChecks, timeOf, timeRead, timeWriteChecks}
 use Rattle.values_time.specs.Code.{InRange}
-use Rattle.service_list.proofs.SectionBack.{byte-back, count-back, list-back, named, section-verdict}
+use Rattle.service_list.proofs.SectionBack.{byte-back, count-back, list-back, named, named-moved, section-verdict}
 use Rattle.service_list.proofs.SectionWrites.{section-length}
-use Rattle.service_list.specs.SectionBack.{Ready, allOfThree, namesFieldTwo}
+use Rattle.service_list.specs.SectionBack.{Ready, allOfThree, beforeFieldTwo, namesFieldTwo}
 use Rattle.service_entries.specs.Entries.{sectionChecks}
 use Rattle.service_list.specs.Section.{listOf}
 use Rattle.service_list.specs.SectionWriting.{counted, sectionByte, sectionBytes}
@@ -38,10 +46,10 @@ use Rattle.values_time.specs.declared.time.TimeCodeRead.{TimeCodeRead}
 -- a time code that can be written is in range
 in-range : (t : TimeCode) → verdict (timeWriteChecks t) ≡ clear → InRange t
 in-range t h =
-    let hours : Check = check (leb (t .hours) 39) NotWritable in
-    let minutes : Check = check (leb (t .minutes) 79) NotWritable in
-    let seconds : Check = check (leb (t .seconds) 79) NotWritable in
-    let frames : Check = check (leb (t .frames) 39) NotWritable in
+    let hours : WriteCheck = check (leb (t .hours) 39) NotWritable in
+    let minutes : WriteCheck = check (leb (t .minutes) 79) NotWritable in
+    let seconds : WriteCheck = check (leb (t .seconds) 79) NotWritable in
+    let frames : WriteCheck = check (leb (t .frames) 39) NotWritable in
     let second : verdict (minutes ∷ seconds ∷ frames ∷ []) ≡ clear =
     kept-rest hours (minutes ∷ seconds ∷ frames ∷ []) h in
     let third : verdict (seconds ∷ frames ∷ []) ≡ clear = kept-rest minutes (seconds ∷ frames ∷ []) second in
@@ -77,16 +85,13 @@ module _ (p : List ℕ) (i : ℕ) (t : TimeCode) (rest : List ℕ) (h : drop i p
   id : byte p i ≡ timeCodeId
   id = rw add-zero at (byte-on p i bytes h 0)
 
+  abbrev fourChecks : List Check
+  fourChecks = timeChecks (byte p (i + 1)) (byte p (i + 2)) (byte p (i + 3)) (byte p (i + 4))
+
   pub time-clear : i + timeCodeSize ≤ length p → verdict (timeCodeChecks p i) ≡ clear
   time-clear fits =
-      simp (
-        le-leb _ _ fits,
-        eq-eqb _ _ id,
-        byte-on p i bytes h 1,
-        byte-on p i bytes h 2,
-        byte-on p i bytes h 4,
-      )
-      four
+      let own : verdict fourChecks ≡ clear = simp (byte-on p i bytes h 1, byte-on p i bytes h 2, byte-on p i bytes h 4) four in
+      simp (le-leb _ _ fits, eq-eqb _ _ id) (verdict-moved (i + 1) fourChecks ∙ moved-clear (i + 1) (verdict fourChecks) own)
 
   pub time-value : timeCodeIn p i ≡ t
   time-value = simp (byte-on p i bytes h 1, byte-on p i bytes h 2, byte-on p i bytes h 3, byte-on p i bytes h 4) value
@@ -157,8 +162,9 @@ module _ (p : List ℕ) (i : ℕ) (l : ServiceInfo) (rest : List ℕ) (h : drop 
       rw (section-bytes, byte-back l r) (record { start = h .start; change = h .change; complete = h .complete })
 
   pub services-verdict : (f : Flags) → FlagsOf f l → i + sectionLength (l .count) ≤ length p
-      → verdict (servicesChecks p f i) ≡ named (namesFieldTwo (counted l))
+      → verdict (servicesChecks p f i) ≡ named (namesFieldTwo (counted l)) (i + sectionLength (beforeFieldTwo (counted l)))
   services-verdict f flags fits =
       alone p f i (omega (arith, section-size, fits)) third (flags-back f flags)
-      ∙ ap (λ (d : List ℕ). verdict (sectionChecks d)) section-bytes
-      ∙ section-verdict l r
+      ∙ ap (λ (d : List ℕ). movedVerdict i (verdict (sectionChecks d))) section-bytes
+      ∙ ap (movedVerdict i) (section-verdict l r)
+      ∙ named-moved i (namesFieldTwo (counted l)) (sectionLength (beforeFieldTwo (counted l)))

@@ -28,11 +28,11 @@ use Rattle.values_time.specs.declared.time.MaybeTimeCode.{MaybeTimeCode}
 abbrev pub numbers : ℕ → ℕ → ℕ → Answer
 numbers number first second = record { number = number; first = first; second = second }
 
--- a packet with no captions, read on any state and with any caption buffer of at least 95 bytes: the answer, the state, made
--- of the one before, and the buffer as it was
-pub record Reads (p : List ℕ) (answered : Answer) (after : CDPParser → CDPParser) : Type 0 where
+-- a packet with no captions, read on any state and with any caption buffer of at least 95 bytes: the answer, its place, the
+-- state, made of the one before, and the buffer as it was
+pub record Reads (p : List ℕ) (answered : Answer) (at : ℕ) (after : CDPParser → CDPParser) : Type 0 where
   pub gives : (s : CDPParser) (buffer : List ℕ) → captionRoom ≤ length buffer
-      → read s p (length buffer) ≡ record { answer = answered; parser = after s }
+      → read s p (length buffer) ≡ record { answer = answered; place = at; parser = after s }
   pub keeps : (buffer : List ℕ) → captionRoom ≤ length buffer → bufferAfter p buffer ≡ buffer
 
 -- what an accepted packet leaves of the state before it: nothing
@@ -68,38 +68,39 @@ hoursFF =
 
 pub record Cases : Type 0 where
   -- nothing is there but the rate
-  pub p1 : Reads (shortest 0x3F 0x00 0x00 0x42) (numbers 0 0 0) (shows rateAlone)
+  pub p1 : Reads (shortest 0x3F 0x00 0x00 0x42) (numbers 0 0 0) 0 (shows rateAlone)
   -- another checksum byte
-  pub p2 : Reads (shortest 0x3F 0x00 0x00 0x43) (numbers 5 0 0) cleared
+  pub p2 : Reads (shortest 0x3F 0x00 0x00 0x43) (numbers 5 0 0) 10 cleared
   -- another sequence in the footer, with a checksum that is right
-  pub p3 : Reads (shortest 0x3F 0x00 0x01 0x41) (numbers 6 0 0) cleared
+  pub p3 : Reads (shortest 0x3F 0x00 0x01 0x41) (numbers 6 0 0) 8 cleared
   -- rate id 0
-  pub p4 : Reads (shortest 0x0F 0x00 0x00 0x42) (numbers 3 0 0) cleared
+  pub p4 : Reads (shortest 0x0F 0x00 0x00 0x42) (numbers 3 0 0) 3 cleared
   -- ten zeros
-  pub p5 : Reads (0 ∷ 0 ∷ 0 ∷ 0 ∷ 0 ∷ 0 ∷ 0 ∷ 0 ∷ 0 ∷ 0 ∷ []) (numbers 1 11 10) cleared
+  pub p5 : Reads (0 ∷ 0 ∷ 0 ∷ 0 ∷ 0 ∷ 0 ∷ 0 ∷ 0 ∷ 0 ∷ 0 ∷ []) (numbers 1 11 10) 10 cleared
   -- a byte behind the footer, whatever it is
   pub p6 : (last : ℕ)
-      → Reads (0x96 ∷ 0x69 ∷ 0x0C ∷ 0x3F ∷ 0x00 ∷ 0x00 ∷ 0x00 ∷ 0x74 ∷ 0x00 ∷ 0x00 ∷ 0x21 ∷ last ∷ []) (numbers 0 0 0) (shows rateAlone)
+      → Reads (0x96 ∷ 0x69 ∷ 0x0C ∷ 0x3F ∷ 0x00 ∷ 0x00 ∷ 0x00 ∷ 0x74 ∷ 0x00 ∷ 0x00 ∷ 0x21 ∷ last ∷ []) (numbers 0 0 0) 0 (shows rateAlone)
   -- a future section of no bytes
   pub p7 : Reads (0x96 ∷ 0x69 ∷ 0x0D ∷ 0x3F ∷ 0x01 ∷ 0x00 ∷ 0x00 ∷ 0x75 ∷ 0x00 ∷ 0x74 ∷ 0x00 ∷ 0x00 ∷ 0xCB ∷ [])
-      (numbers 0 0 0) (shows rateAlone)
+      (numbers 0 0 0) 0 (shows rateAlone)
   -- hours byte FF, beside any bytes that rule 5 takes: three tens, and 15 units that are taken
   pub p8 : (minutes seconds frames : ℕ) → verdict (timeChecks 0xFF minutes seconds frames) ≡ clear
       → timeRead 0xFF minutes seconds frames
       ≡ record {
         answer = numbers 0 0 0;
+        place = 0;
         «time_code» = timeCode 45 (digits 3 minutes) (digits 3 seconds) (digits 2 frames) (allSet x80 seconds) (allSet x80 frames);
       }
   -- and once in a packet
-  pub p8-packet : Reads hoursFF (numbers 0 0 0) (shows (rateWith (timePresent (timeCode 45 20 30 12 true true))))
+  pub p8-packet : Reads hoursFF (numbers 0 0 0) 0 (shows (rateWith (timePresent (timeCode 45 20 30 12 true true))))
   -- a digital service with number 0
-  pub p9 : entryRead (0x65 ∷ 0x6E ∷ 0x67 ∷ 0xC0 ∷ 0x3F ∷ 0xFF ∷ []) ≡ record { answer = numbers 8 0 0; entry = filler }
+  pub p9 : entryRead (0x65 ∷ 0x6E ∷ 0x67 ∷ 0xC0 ∷ 0x3F ∷ 0xFF ∷ []) ≡ record { answer = numbers 8 0 0; place = 3; entry = filler }
   -- header byte 81, which names 1, and 80, which names 0 as a field has it
-  pub p10 : fieldTwoBehind 0x81 ≡ record { answer = numbers 7 0 0; list = empty }
+  pub p10 : fieldTwoBehind 0x81 ≡ record { answer = numbers 7 0 0; place = 2; list = empty }
   pub p10-field-2 : fieldTwoBehind 0x80
-      ≡ record { answer = numbers 0 0 0; list = list false false false (filled (entry (0x65 ∷ 0x6E ∷ 0x67 ∷ []) (Field false) ∷ [])) 1 }
+      ≡ record { answer = numbers 0 0 0; place = 0; list = list false false false (filled (entry (0x65 ∷ 0x6E ∷ 0x67 ∷ []) (Field false) ∷ [])) 1 }
   -- one entry counted, none there
-  pub p11 : sectionRead (0x73 ∷ 0x81 ∷ []) ≡ record { answer = numbers 1 9 2; list = empty }
+  pub p11 : sectionRead (0x73 ∷ 0x81 ∷ []) ≡ record { answer = numbers 1 9 2; place = 2; list = empty }
   -- a new writer, 25/1, no captions, any buffer with room
   pub p12 : (buffer : List ℕ) → 13 ≤ length buffer
       → Writer.heldWritten Writer.freshWriter (row 3 25 1) [] buffer ≡ record { answer = numbers 0 13 0; buffer = over 0 thirteen buffer }

@@ -78,8 +78,8 @@ pub record FirstDemand : Type 0 where
   pub captionsTested : (p : List ℕ) (present : Bool) (i : ℕ)
       → inTable false smaller (ReadCaptions.captionsTested p present i .answer) ≡ true
   pub servicesTested : (p : List ℕ) (f : Flags) (i : ℕ) → inTable false smaller (ReadServices.servicesTested p f i .answer) ≡ true
-  pub closingRead : (p : List ℕ) (sequence i : ℕ) → inTable false smaller (ReadClosing.closingRead p sequence i) ≡ true
-  pub sectionTested : (d : List ℕ) → inTable false differ (ServiceEntries.sectionAnswer d) ≡ true
+  pub closingRead : (p : List ℕ) (sequence i : ℕ) → inTable false smaller (ReadClosing.closingRead p sequence i .answer) ≡ true
+  pub sectionTested : (d : List ℕ) → inTable false differ (ServiceEntries.sectionOutcome d .answer) ≡ true
   pub entriesRead : (d : List ℕ) → inTable false differ (ServiceEntries.entriesRead d .answer) ≡ true
   pub checkedRead : (p : List ℕ) → inTable true differ (ReadPacket.checkedRead p .answer) ≡ true
   pub statelessRead : (p : List ℕ) → inTable true differ (ReaderCode.packetRead p .answer) ≡ true

@@ -3,3 +3,4 @@ pub mod Refused
 pub mod Cases
 pub mod RoundTrip
 pub mod ActiveMark
+pub mod Places

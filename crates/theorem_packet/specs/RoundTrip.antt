@@ -6,9 +6,10 @@ use Prim.Native.Nat.{ℕ, _+_, _/_}
 use lib.ListN.{length, take}
 use Rattle.basis.specs.Answer.{done}
 use Rattle.basis.specs.Bytes.{over}
-use Rattle.values.specs.Layout.{sectionHeadSize, tripletSize}
+use Rattle.basis.specs.Check.{sizeWhen}
+use Rattle.values.specs.Layout.{headerSize, sectionHeadSize, sectionLength, timeCodeSize, tripletSize}
 use Rattle.values.specs.Rate.{present}
-use Rattle.service_list.specs.SectionBack.{allOfThree, namesFieldTwo}
+use Rattle.service_list.specs.SectionBack.{allOfThree, beforeFieldTwo, namesFieldTwo}
 use Rattle.service_entries.specs.Entries.{filled}
 use Rattle.service_list.specs.ServiceList.{list, listAbsent, listPresent}
 use Rattle.service_list.specs.SectionWriting.{counted}
@@ -29,6 +30,13 @@ writtenPacket w rate captions buffer =
 -- whether a counted entry of a list that is held names field 2
 abbrev pub fieldTwo : MaybeServiceInfo → Bool
 fieldTwo services = services .present && namesFieldTwo (counted (services .«service_info»))
+
+-- and where the header byte of the first such entry stands in what was written: behind the header, the time code, the
+-- captions, and the entries in front of it
+abbrev pub fieldTwoAt : CDPWriter → List ℕ → ℕ
+fieldTwoAt w captions =
+    headerSize + sizeWhen (w .«time_code» .present) timeCodeSize + (sectionHeadSize + length captions)
+    + sectionLength (beforeFieldTwo (counted (w .«service_info» .«service_info»)))
 
 -- every counted language of a list that is held has three bytes, as the type of a language says
 abbrev pub Languages : CDPWriter → Type 0
@@ -51,5 +59,5 @@ captionsBack captions = (0xC0 + length captions / tripletSize) ∷ 0xFF ∷ capt
 
 -- reading answers 0 with the captions' length, shows the values, and leaves the captions at the start of the lent buffer
 pub record ReadBack (w : CDPWriter) (rate : Framerate) (captions lent : List ℕ) (got : CDPParserRead) (after : List ℕ) : Type 0 where
-  pub read : got ≡ record { answer = done (sectionHeadSize + length captions); parser = shownBack w rate }
+  pub read : got ≡ record { answer = done (sectionHeadSize + length captions); place = 0; parser = shownBack w rate }
   pub handed : after ≡ over 0 (captionsBack captions) lent

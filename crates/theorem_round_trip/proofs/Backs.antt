@@ -25,12 +25,12 @@ module _ (w : CDPWriter) (rate : Framerate) (captions buffer : List ℕ) (s : CD
   -- what the writer answered and left
   module _ (a : Answer) (left : List ℕ) (answered : a ≡ out .answer) (leaves : left ≡ out .buffer) where
     pub unread : eqb (a .number) 0 ≡ false
-        → WrittenAndRead w rate captions buffer s lent (record { answer = a; parser = s }) left lent
+        → WrittenAndRead w rate captions buffer s lent (record { answer = a; place = 0; parser = s }) left lent
     unread undone =
         let so : eqb (out .answer .number) 0 ≡ false = ap (λ (b : Answer). eqb (b .number) 0) (sym answered) ∙ undone in
         record {
           left = leaves;
-          unwritten = λ _. (ap (λ (b : Answer). record { answer = b; parser = s }) answered, refl);
+          unwritten = λ _. (ap (λ (b : Answer). record { answer = b; place = 0; parser = s }) answered, refl);
           back = λ done-so. absurd (true≢false (sym done-so ∙ so));
           field-two = λ done-so. absurd (true≢false (sym done-so ∙ so));
         }

@@ -21,6 +21,7 @@ fn written_and_read(
     if !written.is_done() {
         return CDPParserRead {
             answer: written,
+            place: 0,
             parser,
         };
     }

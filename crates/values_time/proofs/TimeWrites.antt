@@ -66,7 +66,7 @@ minutes-fixed value h = rw (above-back 3 value 1 (omega arith))
 -- a time code in range is read back from the bytes that writing makes of it
 pub time-back : (t : TimeCode) → InRange t
     → timeRead (getD (timeBytes t) 0 0) (getD (timeBytes t) 1 0) (getD (timeBytes t) 2 0) (getD (timeBytes t) 3 0)
-    ≡ record { answer = done 0; «time_code» = t }
+    ≡ record { answer = done 0; place = 0; «time_code» = t }
 time-back t r =
     sym (all-right _ _ _ _ (hours-fixed (t .hours) (r .hours)) (minutes-fixed (t .minutes) (r .minutes))
     (frames-fixed (t .«drop_frame») (t .frames) (r .frames)))

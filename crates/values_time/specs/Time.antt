@@ -4,7 +4,7 @@ use mathlib.Core.List.{List, [], _∷_}
 use Prim.Native.Nat.{ℕ, _+_, _*_, _/_, _%_}
 use lib.Dec.{leb}
 use Rattle.basis.specs.Answer.{InvalidFixedBits, NotWritable}
-use Rattle.basis.specs.Check.{Check, check, verdict, answer, ifClear}
+use Rattle.basis.specs.Check.{Check, WriteCheck, check, checkAt, verdict, answer, placeOf, ifClear}
 use Rattle.basis.specs.Mask.{under, bitRun, allSet, allClear, flag, x80, x40, xC0, x0F}
 use Rattle.values_time.specs.declared.time.MaybeTimeCode.{MaybeTimeCode}
 use Rattle.values_time.specs.declared.time.TimeCode.{TimeCode}
@@ -34,12 +34,12 @@ units b = under x0F b
 unfoldable pub digits : ℕ → ℕ → ℕ
 digits tensBits b = under (bitRun tensBits 4) b * 10 + units b
 
--- 5.3: hours have both bits of C0; 5.4: minutes have 80; 5.5: frames do not have 40
+-- 5.3: hours have both bits of C0; 5.4: minutes have 80; 5.5: frames do not have 40; places are counted from the hours
 abbrev pub timeChecks : ℕ → ℕ → ℕ → ℕ → List Check
 timeChecks hours minutes seconds frames =
-    check (allSet xC0 hours) InvalidFixedBits
-    ∷ check (allSet x80 minutes) InvalidFixedBits
-    ∷ check (allClear x40 frames) InvalidFixedBits
+    checkAt 0 (allSet xC0 hours) InvalidFixedBits
+    ∷ checkAt 1 (allSet x80 minutes) InvalidFixedBits
+    ∷ checkAt 3 (allClear x40 frames) InvalidFixedBits
     ∷ []
 
 -- two tens bits in hours and frames, three in minutes and seconds; 80 is the field in seconds, drop frame in frames
@@ -51,7 +51,7 @@ timeOf hours minutes seconds frames =
 unfoldable pub timeRead : ℕ → ℕ → ℕ → ℕ → TimeCodeRead
 timeRead hours minutes seconds frames =
     let v = verdict (timeChecks hours minutes seconds frames) in
-    record { answer = answer v 0; «time_code» = ifClear v (timeOf hours minutes seconds frames) noTime }
+    record { answer = answer v 0; place = placeOf v; «time_code» = ifClear v (timeOf hours minutes seconds frames) noTime }
 
 -- Writing: hours and frames 0 to 39, minutes and seconds 0 to 79
 abbrev pub mostHours : ℕ
@@ -67,7 +67,7 @@ abbrev pub mostFrames : ℕ
 mostFrames = 39
 
 -- W3 to W6
-abbrev pub timeWriteChecks : TimeCode → List Check
+abbrev pub timeWriteChecks : TimeCode → List WriteCheck
 timeWriteChecks t =
     check (leb (t .hours) mostHours) NotWritable
     ∷ check (leb (t .minutes) mostMinutes) NotWritable

@@ -37,9 +37,10 @@ impl MaybeTimeCode {
     }
 }
 
-// What reading gives: beside a refusal, no time code.
+// What reading gives: beside a refusal, its place among the four bytes, and no time code.
 pub struct TimeCodeRead {
     pub answer: Answer,
+    pub place: usize,
     pub time_code: TimeCode,
 }
 
@@ -50,10 +51,16 @@ pub struct TimeCodeWritten {
 }
 
 impl TimeCodeRead {
-    const REFUSED: Self = Self {
-        answer: Answer::INVALID_FIXED_BITS,
-        time_code: TimeCode::NONE,
-    };
+    // Fixed bits of the byte at a place.
+    fn refused(place: usize) -> Self
+        ensures { λ r. ⌜ r ≡ Code.refusedTime place ⌝ }
+    {
+        Self {
+            answer: Answer::INVALID_FIXED_BITS,
+            place,
+            time_code: TimeCode::NONE,
+        }
+    }
 }
 
 impl TimeCodeWritten {
@@ -141,18 +148,19 @@ impl TimeCode {
         let frames = bytes[3];
         // Both bits of C0 are set.
         if hours / 64 % 4 != 3 {
-            return TimeCodeRead::REFUSED;
+            return TimeCodeRead::refused(0);
         }
         // Bit 80 is set.
         if minutes / 128 % 2 != 1 {
-            return TimeCodeRead::REFUSED;
+            return TimeCodeRead::refused(1);
         }
         // Bit 40 is clear.
         if frames / 64 % 2 != 0 {
-            return TimeCodeRead::REFUSED;
+            return TimeCodeRead::refused(3);
         }
         TimeCodeRead {
             answer: Answer::done(0),
+            place: 0,
             time_code: Self::value(hours, minutes, seconds, frames),
         }
     }

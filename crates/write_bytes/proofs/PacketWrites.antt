@@ -9,7 +9,7 @@ use lib.ListN.{length}
 use Rattle.basis.proofs.Verdicts.{refused-shows}
 use Rattle.basis.specs.Answer.{BufferTooShort, done, refused}
 use Rattle.basis.specs.Bytes.{over}
-use Rattle.basis.specs.Check.{Verdict, answer, clear, ifClear, roomCheck, verdict}
+use Rattle.basis.specs.Check.{WriteVerdict, answer, clear, ifClear, roomCheck, verdict}
 use Rattle.basis.proofs.Writes.{Leaves, all-fits, no-room, room-done, roomLast, values-refused}
 use Rattle.basis.specs.Writing.{Written, written}
 use Rattle.write_checks.proofs.Tests.{length-most}
@@ -36,7 +36,7 @@ module _ (rate : Framerate) (sequence : ℕ) (time : MaybeTimeCode) (services : 
       ≡ packetWritten rate sequence time services captions buffer
   unfolding packetWritten
   as-written =
-      let v : Verdict =
+      let v : WriteVerdict =
       verdict (packetWriteChecks rate time services run
       ++ roomCheck (packetLength time services run) (length buffer) ∷ []) in
       ap (λ (n : ℕ).
@@ -98,7 +98,7 @@ module _ (rate : Framerate) (sequence : ℕ) (time : MaybeTimeCode) (services : 
       → packetWritten rate sequence time services captions buffer .buffer ≡ buffer
   unfolding packetWritten
   refusal-writes-nothing h =
-      let v : Verdict =
+      let v : WriteVerdict =
       verdict (packetWriteChecks rate time services run
       ++ roomCheck (packetLength time services run) (length buffer) ∷ []) in
       sym (refused-shows (λ (a : Answer) (b : List ℕ). b) v (packetLength time services run) 0

@@ -12,7 +12,7 @@ use Rattle.basis.proofs.Puts.{over-nil, over-over, part-over, put-fits, put-put
 use Rattle.basis.proofs.Verdicts.{when-there}
 use Rattle.basis.specs.Bytes.{over}
 use Rattle.basis.specs.Code.{put}
-use Rattle.basis.specs.Check.{Verdict, clear, ifClear, sizeWhen, verdict}
+use Rattle.basis.specs.Check.{WriteVerdict, clear, ifClear, sizeWhen, verdict}
 use Rattle.values.specs.Checksum.{negative, total}
 use Rattle.values.specs.Layout.{captionsId, timeCodeId, sectionLength, footerSize, headerSize, sectionHeadSize, timeCodeSize}
 use Rattle.values_time.specs.Time.{timeBytes, timeWriteChecks, timeWritten}
@@ -79,7 +79,7 @@ module _ (at : ℕ) (buffer : List ℕ) where
     time-bytes : timeWritten (time .«time_code») .bytes ≡ timeBytes (time .«time_code»)
     unfolding timeWritten
     time-bytes =
-        ap (λ (v : Verdict). ifClear v (timeBytes (time .«time_code»)) (0 ∷ 0 ∷ 0 ∷ 0 ∷ []))
+        ap (λ (v : WriteVerdict). ifClear v (timeBytes (time .«time_code»)) (0 ∷ 0 ∷ 0 ∷ 0 ∷ []))
         (when-there (time .present) (timeWriteChecks (time .«time_code»)) held right)
 
     pub time-put : PutAt at (timeCodeLength time) (timeCodeBytes time) buffer (at + timeCodeSize)

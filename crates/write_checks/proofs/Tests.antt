@@ -23,7 +23,7 @@ use Rattle.basis.proofs.Verdicts.{
   verdict-append,
 }
 use Rattle.basis.specs.Answer.{UnknownFramerate, WrongCaptionRun, done, refused}
-use Rattle.basis.specs.Check.{Check, Verdict, answer, check, clear, sizeWhen, verdict, when}
+use Rattle.basis.specs.Check.{WriteCheck, WriteVerdict, answer, check, clear, sizeWhen, verdict, when}
 use Rattle.values.specs.Rate.{fromId, known, noRate}
 use Rattle.values_time.specs.Time.{timeWriteChecks, timeWritten}
 use Rattle.service_list.proofs.SectionWrites.{value-length}
@@ -54,7 +54,7 @@ abbrev measured : Answer → ℕ → WriteTested
 measured a length = record { answer = a; length = length }
 
 -- a part that may be held: its own checks decide where it is, and its size goes with 0
-module _ (present : Bool) (cs : List Check) (size : ℕ) where
+module _ (present : Bool) (cs : List WriteCheck) (size : ℕ) where
   abbrev part : WriteTested
   part = withLength (verdict (when present cs)) (sizeWhen present size)
 
@@ -176,7 +176,7 @@ module _ (rate : Framerate) (time : MaybeTimeCode) (services : MaybeServiceInfo)
       run-cut a = simp (rated, le-leb _ _ short, ne-eqb _ _ a)
 
       module _ (whole : run % 3 ≡ 0) where
-        abbrev behind : Verdict
+        abbrev behind : WriteVerdict
         behind = andThen (verdict (timeCodeWriteChecks time)) (verdict (servicesWriteChecks services))
 
         as-parts : verdict (packetWriteChecks rate time services run) ≡ behind
@@ -188,9 +188,9 @@ module _ (rate : Framerate) (time : MaybeTimeCode) (services : MaybeServiceInfo)
             → withoutLength (timeCodeWriteTested time .answer) ≡ packetWriteTested rate time services run
         unfolding packetWriteTested timeCodeWriteTested
         time-refused h =
-            let v : Verdict = verdict (timeCodeWriteChecks time) in
+            let v : WriteVerdict = verdict (timeCodeWriteChecks time) in
             refused-shows measured v 0 0 (packetLength time services run) 0 h
-            ∙ ap (λ (u : Verdict). withLength u (packetLength time services run))
+            ∙ ap (λ (u : WriteVerdict). withLength u (packetLength time services run))
             (sym (as-parts ∙ refused-stays v _ _ h))
 
         module _ (timed : eqb (timeCodeWriteTested time .answer .number) 0 ≡ true) where
@@ -198,7 +198,7 @@ module _ (rate : Framerate) (time : MaybeTimeCode) (services : MaybeServiceInfo)
           unfolding timeCodeWriteTested
           behind-time =
               as-parts
-              ∙ ap (λ (v : Verdict). andThen v (verdict (servicesWriteChecks services)))
+              ∙ ap (λ (v : WriteVerdict). andThen v (verdict (servicesWriteChecks services)))
               (done-clear (verdict (timeCodeWriteChecks time)) 0 timed)
 
           pub services-refused : eqb (servicesWriteTested services .answer .number) 0 ≡ false
@@ -206,13 +206,13 @@ module _ (rate : Framerate) (time : MaybeTimeCode) (services : MaybeServiceInfo)
           unfolding packetWriteTested servicesWriteTested
           services-refused h =
               refused-shows measured (verdict (servicesWriteChecks services)) 0 0 (packetLength time services run) 0 h
-              ∙ ap (λ (u : Verdict). withLength u (packetLength time services run)) (sym behind-time)
+              ∙ ap (λ (u : WriteVerdict). withLength u (packetLength time services run)) (sym behind-time)
 
           pub all-right : eqb (servicesWriteTested services .answer .number) 0 ≡ true
               → measured (done 0) (packetLength time services run) ≡ packetWriteTested rate time services run
           unfolding packetWriteTested servicesWriteTested
           all-right h =
-              ap (λ (u : Verdict). withLength u (packetLength time services run)) (sym (behind-time ∙ done-clear _ _ h))
+              ap (λ (u : WriteVerdict). withLength u (packetLength time services run)) (sym (behind-time ∙ done-clear _ _ h))
 
 -- where a packet's test gives an answer 0, its verdict is clear, and the packet's length stands beside it
 module _ (rate : Framerate) (time : MaybeTimeCode) (services : MaybeServiceInfo) (run : ℕ) (t : WriteTested) where
@@ -220,7 +220,7 @@ module _ (rate : Framerate) (time : MaybeTimeCode) (services : MaybeServiceInfo)
       → (verdict (packetWriteChecks rate time services run) ≡ clear) × (t .length ≡ packetLength time services run)
   unfolding packetWriteTested
   packet-right e h =
-      let v : Verdict = verdict (packetWriteChecks rate time services run) in
+      let v : WriteVerdict = verdict (packetWriteChecks rate time services run) in
       let h0 = rw e at h in
       (done-clear v 0 h0, ap (λ (u : WriteTested). u .length) e ∙ done-value v 0 (packetLength time services run) 0 h0)
 
@@ -235,8 +235,8 @@ pub record Accepted (rate : Framerate) (time : MaybeTimeCode) (services : MaybeS
 pub accepted : (rate : Framerate) (time : MaybeTimeCode) (services : MaybeServiceInfo) (run : ℕ)
     → verdict (packetWriteChecks rate time services run) ≡ clear → Accepted rate time services run
 accepted rate time services run h =
-    let parts : List Check = timeCodeWriteChecks time ++ servicesWriteChecks services in
-    let triplets : Check = check (fullTriplets run) WrongCaptionRun in
+    let parts : List WriteCheck = timeCodeWriteChecks time ++ servicesWriteChecks services in
+    let triplets : WriteCheck = check (fullTriplets run) WrongCaptionRun in
     let later : verdict (triplets ∷ parts) ≡ clear =
     kept-rest (check (known rate) UnknownFramerate) (triplets ∷ parts) h in
     let full : fullTriplets run ≡ true = kept-first triplets parts later in

@@ -4,7 +4,7 @@ use mathlib.Core.List.{List, _∷_, _++_}
 use Prim.Native.Nat.{ℕ, _+_, _%_}
 use lib.Dec.{eqb, leb}
 use Rattle.basis.specs.Answer.{UnknownFramerate, WrongCaptionRun}
-use Rattle.basis.specs.Check.{Check, check, when, sizeWhen}
+use Rattle.basis.specs.Check.{WriteCheck, check, when, sizeWhen}
 use Rattle.values.specs.Layout.{captionRun, footerSize, headerSize, sectionHeadSize, sectionLength, timeCodeSize, tripletSize}
 use Rattle.values.specs.Rate.{known}
 use Rattle.values_time.specs.Time.{timeWriteChecks}
@@ -18,14 +18,14 @@ abbrev pub fullTriplets : ℕ → Bool
 fullTriplets run = leb run captionRun && eqb (run % tripletSize) 0
 
 -- W3 to W6, W7 and W8; what is not held is unread
-abbrev pub timeCodeWriteChecks : MaybeTimeCode → List Check
+abbrev pub timeCodeWriteChecks : MaybeTimeCode → List WriteCheck
 timeCodeWriteChecks time = when (time .present) (timeWriteChecks (time .«time_code»))
 
-abbrev pub servicesWriteChecks : MaybeServiceInfo → List Check
+abbrev pub servicesWriteChecks : MaybeServiceInfo → List WriteCheck
 servicesWriteChecks services = when (services .present) (valueChecks (services .«service_info»))
 
 -- W1: the rate; W2: the caption run; W3 to W6: the time code; W7 and W8: count and entries of the list
-abbrev pub packetWriteChecks : Framerate → MaybeTimeCode → MaybeServiceInfo → ℕ → List Check
+abbrev pub packetWriteChecks : Framerate → MaybeTimeCode → MaybeServiceInfo → ℕ → List WriteCheck
 packetWriteChecks rate time services run =
     check (known rate) UnknownFramerate
     ∷ check (fullTriplets run) WrongCaptionRun

@@ -1,6 +1,6 @@
 -- Follows the code and not the rules: what testing a packet that is to be written gives, and its time code and list by themselves.
 use Prim.Native.Nat.{ℕ}
-use Rattle.basis.specs.Check.{Verdict, verdict, answer, ifClear}
+use Rattle.basis.specs.Check.{WriteVerdict, verdict, answer, ifClear}
 use Rattle.write_checks.specs.Checks.{
   packetLength,
   packetWriteChecks,
@@ -16,7 +16,7 @@ use Rattle.values.specs.declared.framerate.Framerate.{Framerate}
 use Rattle.write_checks.specs.declared.checks.WriteTested.{WriteTested}
 
 -- the answer, and the length beside it; no length beside a refusal
-abbrev pub withLength : Verdict → ℕ → WriteTested
+abbrev pub withLength : WriteVerdict → ℕ → WriteTested
 withLength v length = record { answer = answer v 0; length = ifClear v length 0 }
 
 abbrev pub withoutLength : Answer → WriteTested

@@ -2,7 +2,7 @@
 use mathlib.Core.Bool.{cond}
 use mathlib.Core.List.{List, [], _∷_}
 use Prim.Native.Nat.{ℕ}
-use Rattle.basis.specs.Check.{Check, when, verdict, answer, ifClear}
+use Rattle.basis.specs.Check.{WriteCheck, when, verdict, answer, ifClear}
 use Rattle.basis.specs.Writing.{Written}
 use Rattle.write_bytes.specs.PacketWriting as Writing
 use Rattle.values_time.specs.Time.{timeAbsent}
@@ -34,7 +34,7 @@ abbrev pub holding : CDPWriter → MaybeServiceInfo → CDPWriter
 holding w services = writer (w .«time_code») (heldList services) (w .sequence)
 
 -- a list that is there counts up to 15, or it is refused and the writer is given back
-abbrev pub setChecks : MaybeServiceInfo → List Check
+abbrev pub setChecks : MaybeServiceInfo → List WriteCheck
 setChecks services = when (services .present) (countCheck (services .«service_info») ∷ [])
 
 unfoldable pub setServiceInfo : CDPWriter → MaybeServiceInfo → CDPWriterSet

@@ -64,6 +64,9 @@ add-header c = search needs
 shared-slice-read-header : tie.Need-shared-slice-read-header
 shared-slice-read-header c = search needs
 
+add-alone : tie.Need-add-alone
+add-alone c = search needs
+
 alone-requires-4 : tie.Need-alone-requires-4
 alone-requires-4 c κs = search needs
 
@@ -126,6 +129,7 @@ test-captions-spec =
     returns-3
     add-header
     shared-slice-read-header
+    add-alone
     alone-requires-4
     returns-4
     cast-length

@@ -43,8 +43,11 @@ add-length-mismatch c = search needs
 length-mismatch-requires : tie.Need-length-mismatch-requires Inv-loop μ-loop
 length-mismatch-requires c κs = search needs
 
+at-requires : tie.Need-at-requires Inv-loop μ-loop
+at-requires c κs = search needs
+
 returns : tie.Need-returns Inv-loop μ-loop
-returns c = c .length-mismatch .ensures ∙ nothing-there _ _ _ (omega arith)
+returns c = c .at .ensures ∙ rw (c .before .length-mismatch .ensures) (nothing-there _ _ _ (omega arith))
 
 loop-holds : tie.Need-loop-holds Inv-loop μ-loop
 loop-holds c = begins _ _ _ (omega arith)
@@ -55,16 +58,24 @@ shared-slice-read-if2 c = search needs
 shared-slice-read-if3 : tie.Need-shared-slice-read-if3 Inv-loop μ-loop
 shared-slice-read-if3 c = search needs
 
+at-requires-2 : tie.Need-at-requires-2 Inv-loop μ-loop
+at-requires-2 c κs = search needs
+
 returns-2 : tie.Need-returns-2 Inv-loop μ-loop
-returns-2 c = id-low _ _ _ _ (loop-head (c .before .before) .loop .inv) (c .before .before .if2 .taken) (omega arith)
+returns-2 c =
+    let begun = c .before .before .before in
+    c .at2 .ensures ∙ id-low _ _ _ _ (loop-head begun .loop .inv) (begun .if2 .taken) (omega arith)
 
 shared-slice-read-if4 : tie.Need-shared-slice-read-if4 Inv-loop μ-loop
 shared-slice-read-if4 c = search needs
 
+at-requires-3 : tie.Need-at-requires-3 Inv-loop μ-loop
+at-requires-3 c κs = search needs
+
 returns-3 : tie.Need-returns-3 Inv-loop μ-loop
 returns-3 c =
-    let inv = loop-head (turn-begun (c .before)) .loop .inv in
-    id-high _ _ _ _ inv (turn-begun (c .before) .if2 .taken) (omega arith) (omega arith)
+    let begun = turn-begun (c .before .before) in
+    c .at3 .ensures ∙ id-high _ _ _ _ (loop-head begun .loop .inv) (begun .if2 .taken) (omega arith) (omega arith)
 
 add-length : tie.Need-add-length Inv-loop μ-loop
 add-length c = search needs
@@ -91,11 +102,15 @@ add-length-mismatch-3 c =
 length-mismatch-requires-2 : tie.Need-length-mismatch-requires-2 Inv-loop μ-loop
 length-mismatch-requires-2 c κs = search needs
 
+at-requires-4 : tie.Need-at-requires-4 Inv-loop μ-loop
+at-requires-4 c κs = search needs
+
 returns-4 : tie.Need-returns-4 Inv-loop μ-loop
 returns-4 c =
-    let inv = loop-head (turn-tested (c .before .before)) .loop .inv in
-    let future = turn-tested (c .before .before) .if2 .taken in
-    c .length-mismatch2 .ensures ∙ future-cut _ _ _ _ inv future (omega arith) (omega arith) (omega arith)
+    let begun = turn-tested (c .before .before .before) in
+    c .at4 .ensures
+    ∙ rw (c .before .length-mismatch2 .ensures)
+    (future-cut _ _ _ _ (loop-head begun .loop .inv) (begun .if2 .taken) (omega arith) (omega arith) (omega arith))
 
 add-next : tie.Need-add-next Inv-loop μ-loop
 add-next c = search needs
@@ -112,12 +127,16 @@ add-length-mismatch-4 c = search needs
 length-mismatch-requires-3 : tie.Need-length-mismatch-requires-3 Inv-loop μ-loop
 length-mismatch-requires-3 c κs = search needs
 
+at-requires-5 : tie.Need-at-requires-5 Inv-loop μ-loop
+at-requires-5 c κs = search needs
+
 returns-5 : tie.Need-returns-5 Inv-loop μ-loop
 returns-5 c =
-    let inv = loop-head (turn-tested (c .before .before .before)) .loop .inv in
-    let future = turn-tested (c .before .before .before) .if2 .taken in
-    c .length-mismatch3 .ensures
-    ∙ nothing-behind _ _ _ _ inv future (omega arith) (omega arith) (omega arith) (omega arith)
+    let begun = turn-tested (c .before .before .before .before) in
+    let inv = loop-head begun .loop .inv in
+    c .at5 .ensures
+    ∙ rw (c .before .length-mismatch3 .ensures)
+    (nothing-behind _ _ _ _ inv (begun .if2 .taken) (omega arith) (omega arith) (omega arith) (omega arith))
 
 loop-less : tie.Need-loop-less Inv-loop μ-loop
 loop-less c = search needs
@@ -143,12 +162,15 @@ test-closing-spec =
     add-if1
     add-length-mismatch
     length-mismatch-requires
+    at-requires
     returns
     loop-holds
     shared-slice-read-if2
     shared-slice-read-if3
+    at-requires-2
     returns-2
     shared-slice-read-if4
+    at-requires-3
     returns-3
     add-length
     shared-slice-read-length
@@ -158,12 +180,14 @@ test-closing-spec =
     add-length-mismatch-2
     add-length-mismatch-3
     length-mismatch-requires-2
+    at-requires-4
     returns-4
     add-next
     add-next-2
     add-if6
     add-length-mismatch-4
     length-mismatch-requires-3
+    at-requires-5
     returns-5
     loop-less
     loop-again

@@ -1,11 +1,15 @@
 -- `read_services::test_services` is rule 7, test by test.
 -- Assumes nothing.
-use mathlib.Core.Path.{_∙_, ap, sym}
+use mathlib.Core.Path.{_∙_, sym}
+use Prim.Native.Nat.{_+_, _≤_}
 use native.Mathlib.Omega.{arith}
 use borrow.Author.Tests.{not-true, not-false}
-use Rattle.basis.specs.Code.{alone}
+use denote.Ref.{now}
+use Rattle.basis.specs.Bytes.{byte}
+use Rattle.values.specs.Layout.{sectionLength}
 use Rattle.read_services.proofs.ServicesReads.{
   entries-cut,
+  near,
   not-there,
   other-flags,
   other-id,
@@ -25,13 +29,18 @@ abbrev id-right : tie.After-shared-slice-known3 → tie.Else3
 id-right c = c .before
 
 abbrev entries-tested : tie.After-is-done → tie.After-test-section
-entries-tested c = c .before
+entries-tested c = c .before .before
 
 abbrev flag-set : tie.After-is-done → tie.Else1
 flag-set c = section-there (id-right (entries-tested c .before .before .before) .before)
 
 abbrev entries-right : tie.After-same-flags → tie.Else5
 entries-right c = c .before
+
+section-near : (c : tie.After-test-section) → c .test-section .result .place ≤ sectionLength 15
+section-near c =
+    let args = section-there (id-right (c .before .before .before) .before) .before .before .before .args in
+    rw (c .test-section .ensures) (near (now (args .packet)) (args .at) (byte (now (args .packet)) (args .at + 1)))
 
 done-requires : tie.Need-done-requires
 done-requires c κs = search needs
@@ -125,17 +134,20 @@ test-section-requires c κs = search needs
 is-done-requires : tie.Need-is-done-requires
 is-done-requires c κs = search needs
 
+add-alone : tie.Need-add-alone
+add-alone c = omega (arith, section-near (entries-tested (c .before .before)))
+
 alone-requires-5 : tie.Need-alone-requires-5
 alone-requires-5 c κs = search needs
 
 returns-5 : tie.Need-returns-5
 returns-5 c =
-    let e = entries-tested (c .before .before) .test-section .ensures in
-    let wrong = rw e at (sym (c .before .before .is-done .ensures) ∙ not-true _ (c .before .if5 .taken)) in
-    let there = flag-set (c .before .before) .if1 .left in
+    let refusal = c .before .before in
+    let e = entries-tested (refusal .before) .test-section .ensures in
+    let wrong = rw e at (sym (refusal .before .is-done .ensures) ∙ not-true _ (refusal .if5 .taken)) in
+    let there = flag-set (refusal .before) .if1 .left in
     c .alone5 .ensures
-    ∙ ap alone e
-    ∙ section-refused _ _ _ (not-false _ there) (omega arith) (omega arith) (omega arith) wrong
+    ∙ rw e (section-refused _ _ _ (not-false _ there) (omega arith) (omega arith) (omega arith) wrong)
 
 same-flags-requires : tie.Need-same-flags-requires
 same-flags-requires c κs = search needs
@@ -197,6 +209,7 @@ test-services-spec =
     part-test-section-end
     test-section-requires
     is-done-requires
+    add-alone
     alone-requires-5
     returns-5
     same-flags-requires

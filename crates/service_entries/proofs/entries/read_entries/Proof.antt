@@ -2,6 +2,7 @@
 -- Assumes nothing.
 use mathlib.Core.Path.{_∙_, ap, sym}
 use borrow.Author.Tests.{not-true, not-false}
+use Rattle.basis.specs.declared.tested.Outcome.{Outcome}
 use Rattle.service_entries.specs.Code.{refusedEntries}
 use Rattle.service_entries.proofs.SectionEntries.{entries-read, entries-refused, section-clear}
 use borrow.Author.Needs.{needs}
@@ -19,19 +20,21 @@ refused-requires c κs = search needs
 
 returns : tie.Need-returns
 returns c =
-    let e = c .before .before .before .test-section .ensures in
+    let refusal = c .before in
+    let answered = refusal .before in
+    let e = answered .before .before .test-section .ensures in
     c .refused .ensures
-    ∙ ap refusedEntries e
-    ∙ entries-refused _ (rw e at (sym (c .before .before .is-done .ensures) ∙ not-true _ (c .before .if1 .taken)))
+    ∙ ap (λ (r : Outcome). refusedEntries (r .answer) (r .place)) e
+    ∙ entries-refused _ (rw e at (sym (answered .is-done .ensures) ∙ not-true _ (refusal .if1 .taken)))
 
 places-requires : tie.Need-places-requires
 places-requires c κs =
-    let e = c .before .before .test-section .ensures in
+    let e = c .before .before .before .test-section .ensures in
     section-clear _ (rw e at (sym (c .before .is-done .ensures) ∙ not-false _ (c .if1 .left)))
 
 returns-2 : tie.Need-returns-2
 returns-2 c =
-    let e = c .before .before .before .test-section .ensures in
+    let e = c .before .before .before .before .test-section .ensures in
     rw (c .places .ensures, e)
     (entries-read _ (rw e at (sym (c .before .before .is-done .ensures) ∙ not-false _ (c .before .if1 .left))))
 

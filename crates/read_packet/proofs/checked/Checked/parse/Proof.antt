@@ -10,7 +10,6 @@ use denote.Ref.{now}
 use lib.Dec.{eqb}
 use Rattle.read_header.specs.Code.{headerRead}
 use Rattle.read_packet.specs.Packet.{captionsLength}
-use Rattle.read_packet.specs.Code.{refusedChecked}
 use Rattle.basis.specs.Code.{sized}
 use Rattle.read_time_code.specs.declared.time_code.TimeCodeSection.{TimeCodeSection}
 use Rattle.basis.specs.Check.{sizeWhen}
@@ -74,7 +73,7 @@ abbrev captions-accepted : tie.After-is-done4 → tie.Else3
 captions-accepted c = services-read c .before .before
 
 abbrev closing-read : tie.After-is-done5 → tie.After-test-closing
-closing-read c = c .before
+closing-read c = c .before .before
 
 abbrev services-accepted : tie.After-is-done5 → tie.Else4
 services-accepted c = closing-read c .before .before
@@ -302,22 +301,22 @@ returns-5 c =
     let e = closing-asked (c .before .before) in
     let wrong = sym (c .before .before .is-done5 .ensures) ∙ not-true _ (c .before .if5 .taken) in
     c .refused5 .ensures
-    ∙ ap refusedChecked e
-    ∙ closing-refused _ (header-kept header) (time-code-kept time-code)
-    (captions-kept captions) (services-kept services) (rw e at wrong)
+    ∙ rw e
+    (closing-refused _ (header-kept header) (time-code-kept time-code)
+    (captions-kept captions) (services-kept services) (rw e at wrong))
 
 done-requires : tie.Need-done-requires
 done-requires c κs = search needs
 
-cast-t19 : tie.Need-cast-t19
-cast-t19 c =
+cast-t20 : tie.Need-cast-t20
+cast-t20 c =
     let services = services-accepted (closing-accepted c .before) in
     let captions = captions-accepted (services .before) in
     let time-code = time-code-accepted (captions .before) in
     omega (arith, captions-near (packet2 (time-code .before)), time-code-size time-code)
 
-cast-t21 : tie.Need-cast-t21
-cast-t21 c =
+cast-t22 : tie.Need-cast-t22
+cast-t22 c =
     let services = services-accepted (closing-accepted c .before) in
     let captions = captions-accepted (services .before) in
     let time-code = time-code-accepted (captions .before) in
@@ -369,6 +368,6 @@ parse-spec =
     refused-requires-5
     returns-5
     done-requires
-    cast-t19
-    cast-t21
+    cast-t20
+    cast-t22
     returns-6)

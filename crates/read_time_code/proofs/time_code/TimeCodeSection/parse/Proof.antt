@@ -1,8 +1,10 @@
 -- `read_time_code::TimeCodeSection::parse` is rule 5, test by test.
 -- Assumes nothing.
 use mathlib.Core.Path.{_∙_, sym}
+use Prim.Native.Nat.{_≤_}
 use native.Mathlib.Omega.{arith}
 use borrow.Author.Tests.{not-true, not-false}
+use Rattle.values_time.proofs.TimeReads.{time-near}
 use Rattle.read_time_code.proofs.TimeCodeReads.{not-there, too-short, other-id, bytes-wrong, time-code-whole}
 use borrow.Author.Needs.{needs}
 use Rattle.read_time_code.proofs.time_code.TimeCodeSection.parse.Statement.{statement}
@@ -21,6 +23,9 @@ id-right c = bytes-read c .before .before
 
 abbrev bytes-right : tie.After-done2 → tie.Else4
 bytes-right c = c .before .before
+
+near : (c : tie.After-parse) → c .parse .result .place ≤ 4
+near c = rw (c .parse .ensures) (time-near _ _ _ _)
 
 done-requires : tie.Need-done-requires
 done-requires c κs = search needs
@@ -71,15 +76,22 @@ parse-requires c κs = search needs
 is-done-requires : tie.Need-is-done-requires
 is-done-requires c κs = search needs
 
+add-without : tie.Need-add-without
+add-without c = search needs
+
+add-without-2 : tie.Need-add-without-2
+add-without-2 c = omega (arith, near (bytes-read (c .before .before)))
+
 without-requires-4 : tie.Need-without-requires-4
 without-requires-4 c κs = search needs
 
 returns-4 : tie.Need-returns-4
 returns-4 c =
-    let four = bytes-read (c .before .before) .before .four-behind in
-    let e = rw (bytes-read, four .ensures) at (bytes-read (c .before .before) .parse .ensures) in
-    let wrong = rw e at (sym (c .before .before .is-done .ensures) ∙ not-true _ (c .before .if4 .taken)) in
-    let there = section-there (id-right (c .before .before) .before) .if1 .left in
+    let refusal = c .before .before in
+    let four = bytes-read (refusal .before) .before .four-behind in
+    let e = rw (bytes-read, four .ensures) at (bytes-read (refusal .before) .parse .ensures) in
+    let wrong = rw e at (sym (refusal .before .is-done .ensures) ∙ not-true _ (refusal .if4 .taken)) in
+    let there = section-there (id-right (refusal .before) .before) .if1 .left in
     c .without4 .ensures ∙ rw e (bytes-wrong _ _ _ (not-false _ there) (omega arith) (omega arith) wrong)
 
 done-requires-2 : tie.Need-done-requires-2
@@ -111,6 +123,8 @@ parse-spec =
     four-behind-requires
     parse-requires
     is-done-requires
+    add-without
+    add-without-2
     without-requires-4
     returns-4
     done-requires-2

@@ -2,13 +2,13 @@
 -- Assumes nothing.
 use mathlib.Core.Bool.{true}
 use mathlib.Core.List.{List}
-use mathlib.Core.Path.{_≡_, _∙_, sym, ap}
+use mathlib.Core.Path.{_≡_, _∙_, sym, ap, ap₂}
 use Prim.Native.Nat.{ℕ}
 use borrow.Author.Tests.{not-true, not-false}
 use denote.Ref.{now}
 use lib.Dec.{eqb}
 use Rattle.reader.specs.Code.{packetRead, refusedPacket}
-use Rattle.reader.proofs.PacketShown.{accepts, all-shown, checks-answer, none-shown, packet-clear}
+use Rattle.reader.proofs.PacketShown.{accepts, all-shown, checks-answer, checks-place, none-shown, packet-clear}
 use Rattle.read_packet.specs.declared.checked.Checked.{Checked}
 use borrow.Author.Needs.{needs}
 use Rattle.reader.proofs.packet_read.PacketRead.parse.Statement.{statement}
@@ -23,6 +23,9 @@ packet c = now (checked c .before .before .args .packet)
 
 answered : (c : tie.After-is-done) → checked c .parse .result .answer ≡ packetRead (packet c) .answer
 answered c = ap (λ (r : Checked). r .answer) (checked c .parse .ensures) ∙ checks-answer _
+
+placed : (c : tie.After-is-done) → checked c .parse .result .place ≡ packetRead (packet c) .place
+placed c = ap (λ (r : Checked). r .place) (checked c .parse .ensures) ∙ checks-place _
 
 kept : (c : tie.Else1) → eqb (packetRead (packet (c .before)) .answer .number) 0 ≡ true
 kept c = rw (answered (c .before)) at (sym (c .before .is-done .ensures) ∙ not-false _ (c .if1 .left))
@@ -40,7 +43,7 @@ returns : tie.Need-returns
 returns c =
     let e = answered (c .before .before) in
     let wrong = rw e at (sym (c .before .before .is-done .ensures) ∙ not-true _ (c .before .if1 .taken)) in
-    c .refused .ensures ∙ ap refusedPacket e ∙ none-shown _ wrong
+    c .refused .ensures ∙ ap₂ refusedPacket e (placed (c .before .before)) ∙ none-shown _ wrong
 
 shown-requires : tie.Need-shown-requires
 shown-requires c κs = (packet-clear _ (kept c), checked (c .before) .parse .ensures)

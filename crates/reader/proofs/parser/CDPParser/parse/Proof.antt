@@ -10,7 +10,7 @@ use denote.Ref.{now}
 use lib.Dec.{eqb}
 use Rattle.read_packet.specs.Code.{checkedShown}
 use Rattle.reader.specs.Code.{packetRead}
-use Rattle.reader.proofs.PacketShown.{accepts, checks-answer, packet-clear}
+use Rattle.reader.proofs.PacketShown.{accepts, checks-answer, checks-place, packet-clear}
 use Rattle.reader.proofs.ReaderReads.{
   has-captions,
   no-room,
@@ -46,6 +46,9 @@ packet c = now (entry (checked c .before) .args .packet)
 answered : (c : tie.After-is-done) → checked c .parse .result .answer ≡ packetRead (packet c) .answer
 answered c = ap (λ (r : Checked). r .answer) (checked c .parse .ensures) ∙ checks-answer _
 
+placed : (c : tie.After-is-done) → checked c .parse .result .place ≡ packetRead (packet c) .place
+placed c = ap (λ (r : Checked). r .place) (checked c .parse .ensures) ∙ checks-place _
+
 kept : (c : tie.Else2) → eqb (packetRead (packet (c .before)) .answer .number) 0 ≡ true
 kept c = rw (answered (c .before)) at (sym (c .before .is-done .ensures) ∙ not-false _ (c .if2 .left))
 
@@ -70,8 +73,10 @@ cleared-requires c κs = search needs
 returns-2 : tie.Need-returns-2
 returns-2 c =
     let e = answered (c .before .before) in
-    let wrong = rw e at (sym (c .before .before .is-done .ensures) ∙ not-true _ (c .before .if2 .taken)) in
-    (rw (c .cleared .ensures, e) (packet-refused _ _ _ (omega arith) wrong), refused-buffer _ _ (omega arith) wrong)
+    let wrong = rw e at (sym (c .before .before .is-done .ensures) ∙ not-true _ (c .before .if2 .taken)) in (
+      rw (c .cleared .ensures) (packet-refused _ _ _ (omega arith) e (placed (c .before .before)) wrong),
+      refused-buffer _ _ (omega arith) wrong,
+    )
 
 hand-out-requires : tie.Need-hand-out-requires
 hand-out-requires c κs =

@@ -1,0 +1,152 @@
+-- What holds of the rule that a list of checks breaks first, if it breaks one; and so where its place stands in the input.
+-- Assumes nothing.
+use mathlib.Core.Bool.{Bool, true, false, cond, _&&_, false≢true}
+use mathlib.Core.List.{List, [], _∷_, _++_}
+use mathlib.Core.Path.{_≡_, refl}
+use Prim.Native.Nat.{ℕ, _+_, _≤_, _<_}
+use native.Mathlib.Omega.{arith}
+use borrow.Author.Tests.{eq-eqb, eqb-true, leb-true, lt-ltb, ltb-true, ne-eqb}
+use lib.Dec.{eqb, leb, ltb}
+use lib.ListN.{length}
+use Rattle.basis.proofs.Bools.{and-left}
+use Rattle.basis.proofs.Verdicts.{andThen, movedVerdict, verdict-append, verdict-moved}
+use Rattle.basis.specs.Answer.{Refusal, refused}
+use Rattle.basis.specs.Check.{
+  Check,
+  CheckOf,
+  RuleAt,
+  Verdict,
+  VerdictOf,
+  answer,
+  broken,
+  clear,
+  moved,
+  placeOf,
+  sizeCheck,
+  verdict,
+  when,
+}
+
+abbrev pub held : {P : Type 0} → (RuleAt P → Bool) → VerdictOf P → Bool
+held good clear = true
+held good (broken rule) = good rule
+
+pub record Holds {P : Type 0} (good : RuleAt P → Bool) (cs : List (CheckOf P)) : Type 0 where
+  pub it : held good (verdict cs) ≡ true
+
+-- The law: it holds of each check that is broken, those before it kept.
+first-broken : {P : Type 0} (good : RuleAt P → Bool) (kept : Bool) (rule : RuleAt P) (v : VerdictOf P)
+    → (kept ≡ false → good rule ≡ true) → (kept ≡ true → held good v ≡ true) → held good (cond kept v (broken rule)) ≡ true
+first-broken good true rule v here behind = behind refl
+first-broken good false rule v here behind = here refl
+
+one-by-one : {P : Type 0} (good : RuleAt P → Bool) (v w : VerdictOf P) → held good v ≡ true
+    → (v ≡ clear → held good w ≡ true) → held good (andThen v w) ≡ true
+one-by-one good clear w a b = b refl
+one-by-one good (broken rule) w a b = a
+
+module _ {P : Type 0} {good : RuleAt P → Bool} where
+  pub none : Holds good []
+  none = record { it = refl }
+
+  pub also : {c : CheckOf P} {cs : List (CheckOf P)} → (c .kept ≡ false → good (c .rule) ≡ true)
+      → (c .kept ≡ true → Holds good cs) → Holds good (c ∷ cs)
+  also {c} {cs} here later =
+      record { it = first-broken good (c .kept) (c .rule) (verdict cs) here (λ k. later k .it) }
+
+  -- a check of which it holds, broken or not
+  pub fixed : {c : CheckOf P} {cs : List (CheckOf P)} → good (c .rule) ≡ true → Holds good cs → Holds good (c ∷ cs)
+  fixed here later = also (λ _. here) (λ _. later)
+
+  -- of what stands behind other checks, where these are kept
+  pub behind : (xs ys : List (CheckOf P)) → Holds good xs → (verdict xs ≡ clear → Holds good ys) → Holds good (xs ++ ys)
+  behind xs ys a b =
+      record { it = rw (verdict-append xs ys) (one-by-one good (verdict xs) (verdict ys) (a .it) (λ k. b k .it)) }
+
+  pub both : (xs ys : List (CheckOf P)) → Holds good xs → Holds good ys → Holds good (xs ++ ys)
+  both xs ys a b = behind xs ys a (λ _. b)
+
+  pub where-there : (present : Bool) {cs : List (CheckOf P)} → Holds good cs → Holds good (when present cs)
+  where-there true a = a
+  where-there false a = none
+
+  pub unless-found : (found : Bool) {cs : List (CheckOf P)} → Holds good cs → Holds good (cond found [] cs)
+  unless-found true a = none
+  unless-found false a = a
+
+-- what holds of a refusal wherever it stands, holds of it where its part is moved to
+pub wherever : (good : Refusal → Bool) (from : ℕ) (cs : List Check) → Holds (λ (rule : RuleAt ℕ). good (rule .refusal)) cs
+    → Holds (λ (rule : RuleAt ℕ). good (rule .refusal)) (moved from cs)
+wherever good from cs a = record { it = rw (verdict-moved from cs) (so (verdict cs) (a .it)) }
+  where
+    so : (v : Verdict) → held (λ (rule : RuleAt ℕ). good (rule .refusal)) v ≡ true
+        → held (λ (rule : RuleAt ℕ). good (rule .refusal)) (movedVerdict from v) ≡ true
+    so clear h = refl
+    so (broken rule) h = h
+
+-- a rule of reading: its answer is one of 1 to 9, and its place stands in an input of so many bytes, beside 1, if that may be
+-- answered, at the end, else at one of them
+abbrev pub placedIn : Bool → ℕ → RuleAt ℕ → Bool
+placedIn sizes size rule =
+    cond (eqb (refused (rule .refusal) .number) 1) (sizes && eqb (rule .place) size)
+    (leb (refused (rule .refusal) .number) 9 && ltb (rule .place) size)
+
+-- with 1, and without
+abbrev pub Inside : ℕ → List Check → Type 0
+Inside size cs = Holds (placedIn true size) cs
+
+abbrev pub Within : ℕ → List Check → Type 0
+Within size cs = Holds (placedIn false size) cs
+
+pub at-size : (p : List ℕ) (least : ℕ) {cs : List Check} → (least ≤ length p → Inside (length p) cs)
+    → Inside (length p) (sizeCheck p least ∷ cs)
+at-size p least later = also (λ _. eq-eqb (length p) (length p) refl) (λ k. later (leb-true least (length p) k))
+
+-- a part that answers no 1, moved to where it stands
+moved-so : (sizes one few : Bool) (from place least size : ℕ) → from + least ≤ size
+    → cond one false (few && ltb place least) ≡ true
+    → cond one (sizes && eqb (from + place) size) (few && ltb (from + place) size) ≡ true
+moved-so sizes true few from place least size fits h = absurd (false≢true h)
+moved-so sizes false true from place least size fits h =
+    let inner : place < least = ltb-true place least h in
+    lt-ltb (from + place) size (omega arith)
+moved-so sizes false false from place least size fits h = absurd (false≢true h)
+
+moved-held : (sizes : Bool) (from least size : ℕ) (v : Verdict) → from + least ≤ size → held (placedIn false least) v ≡ true
+    → held (placedIn sizes size) (movedVerdict from v) ≡ true
+moved-held sizes from least size clear fits h = refl
+moved-held sizes from least size (broken rule) fits h =
+    let number : ℕ = refused (rule .refusal) .number in
+    moved-so sizes (eqb number 1) (leb number 9) from (rule .place) least size fits h
+
+pub part-inside : (sizes : Bool) (from least size : ℕ) (cs : List Check) → from + least ≤ size → Within least cs
+    → Holds (placedIn sizes size) (moved from cs)
+part-inside sizes from least size cs fits a =
+    record { it = rw (verdict-moved from cs) (moved-held sizes from least size (verdict cs) fits (a .it)) }
+
+-- so a place is at most the size of the input
+most-so : (sizes one few : Bool) (place size : ℕ) → cond one (sizes && eqb place size) (few && ltb place size) ≡ true
+    → place ≤ size
+most-so true true few place size h = omega (arith, eqb-true place size h)
+most-so false true few place size h = absurd (false≢true h)
+most-so sizes false true place size h = omega (arith, ltb-true place size h)
+most-so sizes false false place size h = absurd (false≢true h)
+
+pub place-most : (sizes : Bool) (size : ℕ) (v : Verdict) → held (placedIn sizes size) v ≡ true → placeOf v ≤ size
+place-most sizes size clear h = omega arith
+place-most sizes size (broken rule) h =
+    let number : ℕ = refused (rule .refusal) .number in
+    most-so sizes (eqb number 1) (leb number 9) (rule .place) size h
+
+-- and no rule of reading answers 11
+eleven-so : (n : ℕ) (one rest-of-one fits : Bool) → eqb n 1 ≡ one → cond one rest-of-one (leb n 9 && fits) ≡ true
+    → eqb n 11 ≡ false
+eleven-so n true a fits e h = ne-eqb n 11 (λ k. omega (arith, eqb-true n 1 e))
+eleven-so n false a fits e h = ne-eqb n 11 (λ k. omega (arith, leb-true n 9 (and-left (leb n 9) fits h)))
+
+pub not-eleven : (sizes : Bool) (size : ℕ) (v : Verdict) (length : ℕ) → held (placedIn sizes size) v ≡ true
+    → eqb (answer v length .number) 11 ≡ false
+not-eleven sizes size clear length h = refl
+not-eleven sizes size (broken rule) length h =
+    let number : ℕ = refused (rule .refusal) .number in
+    eleven-so number (eqb number 1) (sizes && eqb (rule .place) size) (ltb (rule .place) size) refl h
