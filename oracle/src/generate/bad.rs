@@ -4,12 +4,15 @@ use crate::bad_words::{good, spoilt, Word};
 use crate::random::Random;
 use crate::tape::Tape;
 
-const SHAPES: [(&str, &[Word]); 9] = [
+const SHAPES: [(&str, &[Word]); 12] = [
     ("F", &[]),
     ("G", &[]),
     ("P", &[Word::Room, Word::Bytes]),
     ("S", &[Word::Bytes]),
     ("E", &[Word::Six]),
+    ("A", &[Word::Room, Word::Bytes]),
+    ("B", &[Word::Bytes]),
+    ("C", &[Word::Six]),
     ("T", &[Word::Calls]),
     (
         "W",
@@ -32,10 +35,10 @@ const STRANGE: [u8; 14] = [
 ];
 
 /// No operation has one of these letters.
-const LETTERS: [&str; 10] = ["", "p", "f", "s", "w", "A", "PP", "0", "-", "?"];
+const LETTERS: [&str; 10] = ["", "p", "f", "s", "w", "Q", "PP", "0", "-", "?"];
 
 pub fn step(rng: &mut Random, tape: &mut Tape, turn: u64) {
-    let (letter, shape) = SHAPES[(turn % 9) as usize];
+    let (letter, shape) = SHAPES[(turn % SHAPES.len() as u64) as usize];
     let mut words = vec![letter.to_string()];
     for word in shape {
         words.push(good(rng, word));

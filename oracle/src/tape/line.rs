@@ -10,6 +10,8 @@ pub enum Line {
     Active,
     Section(Vec<u8>),
     Entry([u8; 6]),
+    /// A packet, a section or an entry to be read, and the place of its refusal shown.
+    Place,
     Calls(Vec<Call>),
     WritePacket(usize, Held),
     WriteSection(usize, List),
@@ -37,11 +39,14 @@ pub struct Held {
 /// `None` for a line that is no operation.
 pub fn parse(line: &[u8]) -> Option<Line> {
     match line.first()? {
-        b'P' => packet(line),
+        b'P' => packet(line, b"P"),
         b'F' if line == b"F" => Some(Line::Flush),
         b'G' if line == b"G" => Some(Line::Active),
-        b'S' => section(line),
-        b'E' => six(line),
+        b'S' => section(line, b"S"),
+        b'E' => six(line, b"E"),
+        b'A' => packet(line, b"A").map(|_| Line::Place),
+        b'B' => section(line, b"B").map(|_| Line::Place),
+        b'C' => six(line, b"C").map(|_| Line::Place),
         b'T' => calls(line),
         b'W' => write_packet(line),
         b'L' => write_section(line),
@@ -59,18 +64,18 @@ fn words<'a, const K: usize>(line: &'a [u8], letter: &[u8]) -> Option<[&'a [u8];
     pieces(&line[space + 1..], b' ')
 }
 
-fn packet(line: &[u8]) -> Option<Line> {
-    let [lent, packet] = words(line, b"P")?;
+fn packet(line: &[u8], letter: &[u8]) -> Option<Line> {
+    let [lent, packet] = words(line, letter)?;
     Some(Line::Packet(room(lent)?, bytes(packet)?))
 }
 
-fn section(line: &[u8]) -> Option<Line> {
-    let [section] = words(line, b"S")?;
+fn section(line: &[u8], letter: &[u8]) -> Option<Line> {
+    let [section] = words(line, letter)?;
     Some(Line::Section(bytes(section)?))
 }
 
-fn six(line: &[u8]) -> Option<Line> {
-    let [given] = words(line, b"E")?;
+fn six(line: &[u8], letter: &[u8]) -> Option<Line> {
+    let [given] = words(line, letter)?;
     match bytes(given)?[..] {
         [a, b, c, d, e, f] => Some(Line::Entry([a, b, c, d, e, f])),
         _ => None,
