@@ -29,13 +29,13 @@ checkAt place kept refusal = record { kept = kept; rule = ruleAt place refusal }
 
 -- what is written, and a call on a list, has none
 pub data Nowhere : Type 0 where
-  nowhere : Nowhere
+  noPlace : Nowhere
 
 abbrev pub WriteCheck : Type 0
 WriteCheck = CheckOf Nowhere
 
 abbrev pub unplaced : Refusal → RuleAt Nowhere
-unplaced refusal = record { refusal = refusal; place = nowhere }
+unplaced refusal = record { refusal = refusal; place = noPlace }
 
 abbrev pub check : Bool → Refusal → WriteCheck
 check kept refusal = record { kept = kept; rule = unplaced refusal }

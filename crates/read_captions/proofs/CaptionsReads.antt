@@ -37,7 +37,8 @@ module _ (p : List ℕ) (i : ℕ) where
   not-there present a = simp a
 
   module _ (present : Bool) (there : present ≡ true) where
-    pub too-short : length p < i + 2 → alone (refused (LengthMismatch (i + 2) (length p))) (length p) ≡ captionsTested p present i
+    pub too-short : length p < i + 2
+        → alone (refused (LengthMismatch (i + 2) (length p))) (length p) ≡ captionsTested p present i
     unfolding captionsTested
     too-short a = simp (there, lt-leb _ _ a)
 
@@ -53,7 +54,8 @@ module _ (p : List ℕ) (i : ℕ) where
 
         module _ (all-E0 : byte p (i + 1) / 32 % 8 ≡ 7) where
           pub captions-cut : length p < i + (sectionHeadSize + tripletSize * count)
-              → alone (refused (LengthMismatch (i + (sectionHeadSize + tripletSize * count)) (length p))) (length p) ≡ captionsTested p present i
+              → alone (refused (LengthMismatch (i + (sectionHeadSize + tripletSize * count)) (length p))) (length p)
+              ≡ captionsTested p present i
           unfolding captionsTested
           captions-cut a = simp (there, le-leb _ _ long, eq-eqb _ _ id, eq-eqb _ _ all-E0, as-count, lt-leb _ _ a)
 

@@ -26,7 +26,8 @@ use Rattle.read_closing.specs.Code.{closingRead, footerRead}
 
 -- rule 9
 module _ (p : List ℕ) (sequence i : ℕ) where
-  pub footer-short : length p < i + footerSize → outcomeAt (refused (LengthMismatch (i + footerSize) (length p))) (length p) ≡ footerRead p sequence i
+  pub footer-short : length p < i + footerSize
+      → outcomeAt (refused (LengthMismatch (i + footerSize) (length p))) (length p) ≡ footerRead p sequence i
   unfolding footerRead
   footer-short a = simp (lt-leb _ _ a)
 
@@ -37,7 +38,8 @@ module _ (p : List ℕ) (sequence i : ℕ) where
     other-sequence a = simp (le-leb _ _ long, ne-eqb _ _ a)
 
     module _ (same : sequenceOf (byte p (i + 1)) (byte p (i + 2)) ≡ sequence) where
-      pub other-checksum : (byte p (i + 3) ≡ checksumOf p → ⊥) → outcomeAt (refused ChecksumFailed) (i + 3) ≡ footerRead p sequence i
+      pub other-checksum : (byte p (i + 3) ≡ checksumOf p → ⊥)
+          → outcomeAt (refused ChecksumFailed) (i + 3) ≡ footerRead p sequence i
       unfolding footerRead
       other-checksum a = simp (le-leb _ _ long, eq-eqb _ _ same, ne-eqb _ _ a)
 
@@ -57,7 +59,8 @@ pub record Reached (p : List ℕ) (sequence at i : ℕ) : Type 0 where
   pub left : outcome (ahead p sequence turns i) ≡ closingRead p sequence at
 
 module _ (p : List ℕ) (sequence at : ℕ) where
-  pub nothing-there : length p < at + 2 → outcomeAt (refused (LengthMismatch (at + 2) (length p))) (length p) ≡ closingRead p sequence at
+  pub nothing-there : length p < at + 2
+      → outcomeAt (refused (LengthMismatch (at + 2) (length p))) (length p) ≡ closingRead p sequence at
   unfolding closingRead closingChecks
   nothing-there a = simp (lt-leb _ _ a)
 
@@ -110,7 +113,8 @@ module _ (p : List ℕ) (sequence at : ℕ) where
 
           module _ (fits : i + 1 + byte p (i + 1) ≤ length p) where
             pub nothing-behind : length p < i + 2 + byte p (i + 1) + 2
-                → outcomeAt (refused (LengthMismatch (i + 2 + byte p (i + 1) + 2) (length p))) (length p) ≡ closingRead p sequence at
+                → outcomeAt (refused (LengthMismatch (i + 2 + byte p (i + 1) + 2) (length p))) (length p)
+                ≡ closingRead p sequence at
             nothing-behind a = simp (le-leb _ _ low, le-leb _ _ high, le-leb _ _ fits, lt-leb _ _ a) at as-turn
 
             pub goes-on : i + 2 + byte p (i + 1) + 2 ≤ length p → Reached p sequence at (i + 2 + byte p (i + 1))

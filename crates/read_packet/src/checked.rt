@@ -12,8 +12,8 @@ use values::MaybeFramerate;
 use values::Packet;
 use values_time::MaybeTimeCode;
 
-// What reading gives: beside a refusal, nothing but the answer and the place. The list is left for the reader to make when nothing is
-// left that could refuse, so that no refusal and no packet without services copies one.
+// What reading gives: beside a refusal, nothing but the answer and the place. The list is left for the reader to make
+// when nothing is left that could refuse, so that no refusal and no packet without services copies one.
 pub struct Checked {
     pub answer: Answer,
     pub place: usize,

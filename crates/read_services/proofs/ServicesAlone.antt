@@ -98,4 +98,5 @@ module _ (p : List ℕ) (f : Flags) (i : ℕ) where
     pub flags-kept : FlagsOf f (listOf own)
     flags-kept =
         agreed (listOf own) f
-        (kept-first flagsCheck [] (and-second (verdict (moved i (sectionChecks own))) (verdict (flagsCheck ∷ [])) own-and-flags))
+        (kept-first flagsCheck []
+        (and-second (verdict (moved i (sectionChecks own))) (verdict (flagsCheck ∷ [])) own-and-flags))

@@ -124,7 +124,8 @@ module _ (p : List ℕ) (f : Flags) (i : ℕ) where
               ≡ servicesTested p f i
           unfolding servicesTested
           as-parts =
-              ap (λ (v : Verdict). tested (andThen v (verdict (flagsCheck ∷ []))) size) (sym (verdict-moved i (sectionChecks bytes)))
+              ap (λ (v : Verdict). tested (andThen v (verdict (flagsCheck ∷ []))) size)
+              (sym (verdict-moved i (sectionChecks bytes)))
               ∙ ap (λ (v : Verdict). tested v size) (sym (verdict-append (moved i (sectionChecks bytes)) (flagsCheck ∷ [])))
               ∙ simp (there, le-leb _ _ long, eq-eqb _ _ id, as-count, as-size, le-leb _ _ fits)
 
@@ -183,5 +184,6 @@ module _ (p : List ℕ) (f : Flags) (i : ℕ) where
       let long : length own ≡ servicesSize p i =
       length-take-le (servicesSize p i) (drop i p) (omega (arith, length-drop i p)) in
       both (moved i (sectionChecks own)) _
-      (part-inside true i (length own) (length p) (sectionChecks own) (omega (arith, long)) (section-within own (as-long p i fits)))
+      (part-inside true i (length own) (length p) (sectionChecks own) (omega (arith, long))
+      (section-within own (as-long p i fits)))
       (fixed (lt-ltb 4 (length p) (omega arith)) none))))

@@ -9,7 +9,8 @@ use values::Packet;
 use values_time::MaybeTimeCode;
 use values_time::TimeCode;
 
-// What reading gives: beside a refusal and its place, no time code. The size is how far a reader moves on: 0 without a time code.
+// What reading gives: beside a refusal and its place, no time code. The size is how far a reader moves on: 0 without a
+// time code.
 pub struct TimeCodeSection {
     pub answer: Answer,
     pub place: usize,

@@ -6,8 +6,8 @@ use crate::shown::shown;
 use basis::Answer;
 use read_packet::Checked;
 
-// What reading gives: the answer and its place, what an accepted packet makes the reader show, and where its captions stand. Beside a
-// refusal, what a new reader shows.
+// What reading gives: the answer and its place, what an accepted packet makes the reader show, and where its captions
+// stand. Beside a refusal, what a new reader shows.
 pub struct PacketRead {
     pub answer: Answer,
     pub place: usize,

@@ -16,7 +16,6 @@ use Rattle.basis.proofs.Verdicts.{
   and-second,
   andThen,
   done-clear,
-  done-value,
   kept-first,
   kept-rest,
   moved-clear,
@@ -100,7 +99,8 @@ module _ (d : List ℕ) (at : ℕ) where
       as-parts : verdict (checksAt d at)
           ≡ andThen (movedVerdict 1 (verdict (entryChecks (sixBehind d at)))) (verdict (numberCheck d at ∷ []))
       as-parts =
-          simp (eq-eqb _ _ has-80, header-kept) (verdict-append (moved 1 (entryChecks (sixBehind d at))) (numberCheck d at ∷ []))
+          simp (eq-eqb _ _ has-80, header-kept)
+          (verdict-append (moved 1 (entryChecks (sixBehind d at))) (numberCheck d at ∷ []))
           ∙ ap (λ (v : Verdict). andThen v (verdict (numberCheck d at ∷ []))) (verdict-moved 1 (entryChecks (sixBehind d at)))
 
       -- an entry that is refused by its own rules: its place is counted from the header byte
@@ -230,7 +230,8 @@ module _ (d : List ℕ) (k count : ℕ) where
   left-goes-on h r =
       left-step h
       ∙ ap (λ (v : Verdict). andThen v (left d (k + 1) count))
-      (moved-clear (sectionLength k) (verdict (checksAt d (sectionLength k))) (done-clear (verdict (checksAt d (sectionLength k))) 0 r))
+      (moved-clear (sectionLength k) (verdict (checksAt d (sectionLength k)))
+      (done-clear (verdict (checksAt d (sectionLength k))) 0 r))
 
 -- S1 to S4, where one of them is the first that fails
 module _ (d : List ℕ) where
@@ -312,7 +313,8 @@ module _ (d : List ℕ) where
       → refusedEntries (sectionOutcome d .answer) (sectionOutcome d .place) ≡ entriesRead d
   unfolding sectionOutcome entriesRead
   entries-refused h =
-      refused-shows (shownEntries (placeOf (verdict (sectionChecks d)))) (verdict (sectionChecks d)) 0 0 (filled (entriesOf d 2 (countOf d))) fillers h
+      refused-shows (shownEntries (placeOf (verdict (sectionChecks d)))) (verdict (sectionChecks d)) 0 0
+      (filled (entriesOf d 2 (countOf d))) fillers h
 
   pub section-clear : eqb (sectionOutcome d .answer .number) 0 ≡ true → verdict (sectionChecks d) ≡ clear
   unfolding sectionOutcome

@@ -33,7 +33,8 @@ unfolding listOf
 list-is d = refl
 
 module _ (d : List ℕ) where
-  pub list-refused : eqb (entriesRead d .answer .number) 0 ≡ false → refusedList (entriesRead d .answer) (entriesRead d .place) ≡ sectionRead d
+  pub list-refused : eqb (entriesRead d .answer .number) 0 ≡ false
+      → refusedList (entriesRead d .answer) (entriesRead d .place) ≡ sectionRead d
   unfolding entriesRead sectionRead
   list-refused h =
       refused-shows

@@ -15,7 +15,7 @@ use Rattle.basis.proofs.Verdicts.{done-clear}
 use Rattle.basis.specs.Answer.{WouldOverflow, BufferTooShort, NotWritable, done, refused}
 use Rattle.basis.specs.Bytes.{over}
 use Rattle.basis.specs.Code.{put}
-use Rattle.basis.specs.Check.{Nowhere, WriteVerdict, clear, broken, unplaced, verdict, answer}
+use Rattle.basis.specs.Check.{WriteVerdict, clear, broken, unplaced, verdict, answer}
 use Rattle.values.specs.Layout.{servicesId, sectionLength, sectionEntrySize}
 use Rattle.service_entry.specs.Service.{filler}
 use Rattle.service_list.specs.ServiceList.{byteLen}
@@ -122,17 +122,19 @@ unfolding sectionBytes
 section-length l = omega (arith, first-length (l .services) (l .count))
 
 -- what 0 of the value's tests says: the count is a list's, and every counted entry can be written
-both-hold : (count entries : Bool)
-    → eqb (answer (cond count (cond entries clear (broken (unplaced NotWritable))) (broken (unplaced WouldOverflow))) 0 .number) 0 ≡ true
+abbrev value : Bool → Bool → WriteVerdict
+value count entries = cond count (cond entries clear (broken (unplaced NotWritable))) (broken (unplaced WouldOverflow))
+
+both-hold : (count entries : Bool) → eqb (answer (value count entries) 0 .number) 0 ≡ true
     → (count ≡ true) × (entries ≡ true)
 both-hold true true h = (refl, refl)
 both-hold true false h = absurd (false≢true h)
 both-hold false entries h = absurd (false≢true h)
 
 value-parts : (l : ServiceInfo)
-    → verdict (valueChecks l)
-    ≡ cond (leb (l .count) 15) (cond (allWritable (counted l)) clear (broken (unplaced NotWritable))) (broken (unplaced WouldOverflow))
-value-parts l = ap (λ (v : WriteVerdict). cond (leb (l .count) 15) v (broken (unplaced WouldOverflow))) (entries-verdict (counted l))
+    → verdict (valueChecks l) ≡ value (leb (l .count) 15) (allWritable (counted l))
+value-parts l =
+    ap (λ (v : WriteVerdict). cond (leb (l .count) 15) v (broken (unplaced WouldOverflow))) (entries-verdict (counted l))
 
 pub value-done : (l : ServiceInfo) → eqb (valueAnswer l .number) 0 ≡ true
     → (l .count ≤ 15) × (allWritable (counted l) ≡ true)

@@ -7,7 +7,7 @@ use Prim.Native.Nat.{ℕ, _+_, _-_, _≤_}
 use native.Mathlib.Nat.{add-zero}
 use native.Mathlib.Omega.{arith}
 use borrow.Author.Tests.{eqb-true}
-use lib.Dec.{eqb, leb}
+use lib.Dec.{eqb}
 use lib.ListN.{drop, length}
 use Rattle.basis.proofs.Verdicts.{andThen, done-clear, moved-clear, kept-first, kept-rest}
 use Rattle.basis.specs.Answer.{WrongMagic}

@@ -111,7 +111,12 @@ services-alone (t ∷ ts) (a, as′) e s =
     let first : Shown = callShown s (firstOf t) in
     let next : Excepted = exceptedAfter t (first .answer) e in
     ap₂ _∷_
-    (ap (λ (c : List ℕ). record { answer = first .answer; place = first .place; parser = withList next (first .parser); captions = c })
+    (ap (λ (c : List ℕ). record {
+      answer = first .answer;
+      place = first .place;
+      parser = withList next (first .parser);
+      captions = c;
+    })
     (uncaptioned t a s))
     (services-alone ts as′ next (first .parser))
 

@@ -7,7 +7,7 @@ use mathlib.Core.Path.{_≡_, _∙_, sym, refl, ap}
 use Prim.Native.Nat.{ℕ, _+_, _-_, _≤_, _<_}
 use native.Mathlib.Omega.{arith}
 use borrow.Author.Tests.{eqb-true}
-use lib.Dec.{eqb, leb}
+use lib.Dec.{eqb}
 use lib.ListN.{drop, length}
 use Rattle.basis.proofs.Puts.{length-over}
 use Rattle.basis.proofs.Verdicts.{done-clear, kept-first, kept-rest}

@@ -122,8 +122,10 @@ first-demand =
           (Checks.packetLength (w .«time_code») (w .«service_info») (length captions));
       packetTested = λ rate time services run. without never (packet-write-proper never rate time services run);
       sectionAnswered = λ l buffer.
-          with-length never (with-room never (valueChecks l) (value-proper never l) (sectionLength (l .count)) buffer) (length (sectionBytes l));
-      entryAnswered = λ e buffer. with-length never (with-room never (entryCheck e ∷ []) (entry-write-proper never e) 6 buffer) 6;
+          with-length never (with-room never (valueChecks l) (value-proper never l) (sectionLength (l .count)) buffer)
+          (length (sectionBytes l));
+      entryAnswered = λ e buffer.
+          with-length never (with-room never (entryCheck e ∷ []) (entry-write-proper never e) 6 buffer) 6;
       timeAnswered = λ t. without never (time-write-proper never t);
       listAdded = λ l e. without never (overflow-proper never (ltb (l .count) places));
       listMeasured = λ l. with-length never (overflow-proper never (leb (l .count) places)) (sectionLength (l .count));

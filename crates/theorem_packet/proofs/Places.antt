@@ -2,7 +2,7 @@
 -- Assumes nothing.
 use mathlib.Core.Bool.{Bool, true, false, cond, _&&_, true≢false, false≢true}
 use mathlib.Core.List.{List, [], _∷_, _++_}
-use mathlib.Core.Path.{_≡_, _∙_, refl, sym, ap, ap₂}
+use mathlib.Core.Path.{_≡_, _∙_, refl, ap, ap₂}
 use Prim.Native.Nat.{ℕ, zero, suc, _+_, _-_, _*_, _≤_, _<_}
 use native.Mathlib.Omega.{arith}
 use borrow.Author.Tests.{le-leb}
@@ -24,7 +24,23 @@ use Rattle.basis.proofs.Verdicts.{
 }
 use Rattle.basis.specs.Answer.{ServiceFlagsMismatched, ServiceNumberMismatch, refused}
 use Rattle.basis.specs.Bytes.{byte}
-use Rattle.basis.specs.Check.{Check, Verdict, answer, broken, checkAt, clear, moved, placeOf, verdict, when}
+use Rattle.basis.specs.Check.{
+  Check,
+  RuleAt,
+  Verdict,
+  WriteCheck,
+  WriteVerdict,
+  answer,
+  broken,
+  check,
+  checkAt,
+  clear,
+  moved,
+  placeOf,
+  unplaced,
+  verdict,
+  when,
+}
 use Rattle.values.specs.Layout.{captionRoom, sectionEntrySize, sectionHeadSize, sectionLength}
 use Rattle.service_entry.proofs.EntryReads.{entry-within}
 use Rattle.service_entry.specs.Entry.{entryChecks, entryOf, entryRead}
@@ -42,8 +58,32 @@ use Rattle.read_time_code.specs.TimeCode.{timeCodeChecks}
 use Rattle.reader.specs.Code.{packetRead}
 use Rattle.reader.specs.Reader.{captionsCheck, read}
 use Rattle.theorem_packet.specs.FirstDemand.{refuses}
-use Rattle.theorem_packet.specs.Places.{Places, beforeEntry, beforeSection, ownEntry, ownSection, standsIn}
+use Rattle.theorem_packet.specs.Places.{
+  Places,
+  beforeEntry,
+  beforeSection,
+  ownEntry,
+  ownSection,
+  standsIn,
+  withoutPlaces,
+}
 use Rattle.reader.specs.declared.parser.CDPParser.{CDPParser}
+
+-- no answer hangs on a place
+answers-stay : (cs : List Check) (count : ℕ) → answer (verdict cs) count ≡ answer (verdict (withoutPlaces cs)) count
+answers-stay [] count = refl
+answers-stay (c ∷ cs) count =
+    step (c .kept) (c .rule) (verdict cs) (verdict (withoutPlaces cs)) (answers-stay cs count)
+  where
+    step : (kept : Bool) (rule : RuleAt ℕ) (v : Verdict) (w : WriteVerdict) → answer v count ≡ answer w count
+        → answer (cond kept v (broken rule)) count ≡ answer (cond kept w (broken (unplaced (rule .refusal)))) count
+    step true rule v w e = e
+    step false rule v w e = refl
+
+parts-stay : (from : ℕ) (cs : List Check) → withoutPlaces (moved from cs) ≡ withoutPlaces cs
+parts-stay from [] = refl
+parts-stay from (c ∷ cs) =
+    ap (λ (rest : List WriteCheck). check (c .kept) (c .rule .refusal) ∷ rest) (parts-stay from cs)
 
 -- an answer of reading stands where its rule does
 stands-so : (sizes one ends inside : Bool) → cond one (sizes && ends) inside ≡ true → cond one ends inside ≡ true
@@ -201,6 +241,8 @@ pub places : Places
 unfolding read packetRead sectionRead entryRead
 places =
     record {
+      answersStay = answers-stay;
+      partsStay = parts-stay;
       packetStands = λ s p room.
           with-room (leb captionRoom room) (verdict (packetChecks p)) room (captionsLength p) (length p) (packet-inside p .it);
       statelessStands = λ p. stands true (length p) (verdict (packetChecks p)) (captionsLength p) (packet-inside p .it);

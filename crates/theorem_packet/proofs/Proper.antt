@@ -207,7 +207,8 @@ packet-proper p =
     let services : List Check = when (f .«svc_info») (servicesChecks p f (servicesAt p)) in
     let closing : List Check = closingChecks p (sequenceIn p) (closingAt p) in
     both (headerChecks p) (time ++ (captions ++ (services ++ closing))) (header-proper p)
-    (both time (captions ++ (services ++ closing)) (where-there (f .«time_code») (time-code-proper differ shorter-differs p timeCodeAt))
+    (both time (captions ++ (services ++ closing))
+    (where-there (f .«time_code») (time-code-proper differ shorter-differs p timeCodeAt))
     (both captions (services ++ closing) (where-there (f .«cc_data») (captions-proper differ shorter-differs p (captionsAt p)))
     (both services closing (where-there (f .«svc_info») (services-proper differ shorter-differs p f (servicesAt p)))
     (closing-proper differ shorter-differs p (sequenceIn p) (closingAt p)))))

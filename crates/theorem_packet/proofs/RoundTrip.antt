@@ -317,6 +317,7 @@ module _ (w : CDPWriter) (rate : Framerate) (captions buffer : List ℕ)
     -- Where a counted entry of a held list names field 2, reading is answered 7 at the first header byte that does, and
     -- refuses as it refuses any packet.
     pub field-two-answered-7 : fieldTwo (w .«service_info») ≡ true
-        → (read s packet (length lent) ≡ record { answer = refused ServiceNumberMismatch; place = fieldTwoAt w captions; parser = cleared s })
+        → (read s packet (length lent)
+        ≡ record { answer = refused ServiceNumberMismatch; place = fieldTwoAt w captions; parser = cleared s })
         × (bufferAfter packet lent ≡ lent)
     field-two-answered-7 some = (reads ∙ rw some, leaves ∙ rw some)

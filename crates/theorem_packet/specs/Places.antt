@@ -1,11 +1,11 @@
 -- The place of every answer of reading: inside its input, and where the part stands that is refused.
 use mathlib.Core.Bool.{Bool, true, cond, _&&_, _||_}
-use mathlib.Core.List.{List, _++_}
+use mathlib.Core.List.{List, [], _∷_, _++_}
 use mathlib.Core.Path.{_≡_}
 use Prim.Native.Nat.{ℕ, _+_, _≤_, _<_}
 use lib.Dec.{eqb, leb, ltb}
 use lib.ListN.{length, take}
-use Rattle.basis.specs.Check.{Check, clear, moved, verdict, when}
+use Rattle.basis.specs.Check.{Check, WriteCheck, answer, check, clear, moved, verdict, when}
 use Rattle.values.specs.Layout.{captionRoom, sectionHeadSize, sectionLength}
 use Rattle.service_entry.specs.Entry.{entryRead}
 use Rattle.service_entry.specs.EntryWriting.{entryLength}
@@ -48,9 +48,19 @@ abbrev pub beforeEntry : List ℕ → ℕ → List Check
 beforeEntry d k =
     frameChecks d ++ (entryListChecks d sectionHeadSize k ++ moved (sectionLength k) (take 2 (checksAt d (sectionLength k))))
 
+-- checks with their places left out
+abbrev pub withoutPlaces : List Check → List WriteCheck
+withoutPlaces [] = []
+withoutPlaces (c ∷ cs) = check (c .kept) (c .rule .refusal) ∷ withoutPlaces cs
+
 pub record Places : Type 0 where
+  -- the number and the two values are those of the same checks with no places, and so what they were before there were any;
+  -- nor does it count for them where a part stands
+  pub answersStay : (cs : List Check) (count : ℕ) → answer (verdict cs) count ≡ answer (verdict (withoutPlaces cs)) count
+  pub partsStay : (from : ℕ) (cs : List Check) → withoutPlaces (moved from cs) ≡ withoutPlaces cs
   -- whatever is read, whatever the state and however many caption bytes are lent
-  pub packetStands : (s : CDPParser) (p : List ℕ) (room : ℕ) → standsIn (length p) (read s p room .answer) (read s p room .place) ≡ true
+  pub packetStands : (s : CDPParser) (p : List ℕ) (room : ℕ)
+      → standsIn (length p) (read s p room .answer) (read s p room .place) ≡ true
   pub statelessStands : (p : List ℕ) → standsIn (length p) (packetRead p .answer) (packetRead p .place) ≡ true
   pub sectionStands : (d : List ℕ) → standsIn (length d) (sectionRead d .answer) (sectionRead d .place) ≡ true
   pub entryStands : (e : List ℕ) → standsIn entryLength (entryRead e .answer) (entryRead e .place) ≡ true

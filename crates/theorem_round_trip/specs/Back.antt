@@ -28,4 +28,5 @@ pub record WrittenAndRead (w : CDPWriter) (rate : Framerate) (captions buffer : 
   -- one does: 7 at its header byte, and what any refusal leaves
   pub field-two : eqb (heldWritten w rate captions buffer .answer .number) 0 ≡ true → captionRoom ≤ length lent
       → fieldTwo (w .«service_info») ≡ true
-      → (got ≡ record { answer = refused ServiceNumberMismatch; place = fieldTwoAt w captions; parser = cleared s }) × (lentAfter ≡ lent)
+      → (got ≡ record { answer = refused ServiceNumberMismatch; place = fieldTwoAt w captions; parser = cleared s })
+      × (lentAfter ≡ lent)
