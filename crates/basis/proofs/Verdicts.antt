@@ -4,8 +4,9 @@
 use mathlib.Core.Path.{_≡_, _∙_, sym, refl, ap}
 use mathlib.Core.Bool.{Bool, true, false, cond, true≢false, false≢true}
 use mathlib.Core.List.{List, [], _∷_, _++_}
-use Prim.Native.Nat.{ℕ, _+_}
+use Prim.Native.Nat.{ℕ, zero, suc, _+_}
 use lib.Dec.{eqb}
+use lib.ListN.{drop}
 use Rattle.basis.specs.Answer as Table
 use Rattle.basis.specs.Answer.{Refusal, refused}
 use Rattle.basis.specs.Check.{
@@ -155,11 +156,27 @@ rest true v rule h = h
 rest false v rule h = absurd (broken-not-clear rule h)
 
 -- a clear verdict means that each check is kept, the first and those behind it
-pub kept-first : {P : Type 0} (c : CheckOf P) (cs : List (CheckOf P)) → verdict (c ∷ cs) ≡ clear → c .kept ≡ true
+kept-first : {P : Type 0} (c : CheckOf P) (cs : List (CheckOf P)) → verdict (c ∷ cs) ≡ clear → c .kept ≡ true
 kept-first c cs h = first (c .kept) (verdict cs) (c .rule) h
 
-pub kept-rest : {P : Type 0} (c : CheckOf P) (cs : List (CheckOf P)) → verdict (c ∷ cs) ≡ clear → verdict cs ≡ clear
+kept-rest : {P : Type 0} (c : CheckOf P) (cs : List (CheckOf P)) → verdict (c ∷ cs) ≡ clear → verdict cs ≡ clear
 kept-rest c cs h = rest (c .kept) (verdict cs) (c .rule) h
+
+-- by its index: whether the check behind so many others is kept, and those from there on
+abbrev pub keptAt : {P : Type 0} → ℕ → List (CheckOf P) → Bool
+keptAt k [] = true
+keptAt zero (c ∷ cs) = c .kept
+keptAt (suc k) (c ∷ cs) = keptAt k cs
+
+pub kept-at : {P : Type 0} (k : ℕ) (cs : List (CheckOf P)) → verdict cs ≡ clear → keptAt k cs ≡ true
+kept-at k [] h = refl
+kept-at zero (c ∷ cs) h = kept-first c cs h
+kept-at (suc k) (c ∷ cs) h = kept-at k cs (kept-rest c cs h)
+
+pub kept-from : {P : Type 0} (k : ℕ) (cs : List (CheckOf P)) → verdict cs ≡ clear → verdict (drop k cs) ≡ clear
+kept-from zero cs h = h
+kept-from (suc k) [] h = refl
+kept-from (suc k) (c ∷ cs) h = kept-from k cs (kept-rest c cs h)
 
 -- of two verdicts one after the other that are clear, both are
 pub and-first : {P : Type 0} (v w : VerdictOf P) → andThen v w ≡ clear → v ≡ clear

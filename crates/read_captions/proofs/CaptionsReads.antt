@@ -1,28 +1,22 @@
 -- Rule 6, test by test: what the definition gives where a test is the first that fails, and where none does.
 -- Assumes nothing.
 use mathlib.Core.Bool.{Bool, true, false}
-use mathlib.Core.List.{List, [], _∷_}
+use mathlib.Core.List.{List}
 use mathlib.Core.Path.{_≡_}
 use Prim.Native.Nat.{ℕ, _+_, _*_, _/_, _%_, _≤_, _<_}
 use native.Mathlib.Omega.{arith}
 use borrow.Author.Tests.{eq-eqb, ne-eqb, le-leb, leb-true, lt-leb, lt-ltb}
-use lib.Dec.{eqb}
 use lib.ListN.{length, drop, length-drop}
 use lib.Seq.{length-take-le}
 use Rattle.basis.proofs.Holds.{Inside, at-size, fixed, none}
-use Rattle.basis.proofs.Verdicts.{kept-first, kept-rest}
+use Rattle.basis.proofs.Verdicts.{kept-at}
 use Rattle.basis.specs.Answer.{LengthMismatch, WrongMagic, InvalidFixedBits, done, refused}
 use Rattle.basis.specs.Bytes.{byte}
-use Rattle.basis.specs.Check.{Check, checkAt, clear, sizeCheck, verdict}
+use Rattle.basis.specs.Check.{clear, verdict}
 use Rattle.basis.specs.Code.{alone, sized}
-use Rattle.basis.specs.Mask.{allSet, xE0}
-use Rattle.values.specs.Layout.{captionsId, sectionHeadSize, tripletSize}
+use Rattle.values.specs.Layout.{sectionHeadSize, tripletSize}
 use Rattle.read_captions.specs.Captions.{captionCount, captionsChecks, captionsSize, handedOut}
 use Rattle.read_captions.specs.Code.{captionsTested}
-
--- the last of four checks, where all are kept
-fourth : (a b c d : Check) → verdict (a ∷ b ∷ c ∷ d ∷ []) ≡ clear → d .kept ≡ true
-fourth a b c d h = kept-first d [] (kept-rest c (d ∷ []) (kept-rest b (c ∷ d ∷ []) (kept-rest a (b ∷ c ∷ d ∷ []) h)))
 
 module _ (p : List ℕ) (i : ℕ) where
   -- the count, as the code has it
@@ -66,10 +60,7 @@ module _ (p : List ℕ) (i : ℕ) where
 
   -- an accepted section has all its bytes
   pub captions-there : verdict (captionsChecks p i) ≡ clear → i + captionsSize p i ≤ length p
-  captions-there h =
-      leb-true _ _
-      (fourth (sizeCheck p (i + 2)) (checkAt i (eqb (byte p i) captionsId) WrongMagic)
-      (checkAt (i + 1) (allSet xE0 (byte p (i + 1))) InvalidFixedBits) (sizeCheck p (i + captionsSize p i)) h)
+  captions-there h = leb-true _ _ (kept-at 3 (captionsChecks p i) h)
 
   -- every refusal's place is inside the packet, or its end beside 1
   pub captions-inside : Inside (length p) (captionsChecks p i)

@@ -8,11 +8,11 @@ use Prim.Native.Nat.{ℕ, _≤_}
 use native.Mathlib.Omega.{arith}
 use borrow.Author.Tests.{leb-true}
 use lib.Dec.{eqb}
-use lib.ListN.{drop, length}
+use lib.ListN.{length}
 use Rattle.basis.proofs.Holds as Holds
 use Rattle.basis.proofs.Holds.{Inside, behind, both, where-there}
-use Rattle.basis.proofs.Verdicts.{kept-first}
-use Rattle.basis.specs.Check.{Check, answer, clear, sizeCheck, verdict, when}
+use Rattle.basis.proofs.Verdicts.{kept-at}
+use Rattle.basis.specs.Check.{Check, answer, clear, verdict, when}
 use Rattle.values.specs.Layout.{leastSize}
 use Rattle.read_captions.proofs.CaptionsReads.{captions-inside}
 use Rattle.read_captions.specs.Captions.{captionsChecks}
@@ -28,7 +28,7 @@ use Rattle.read_packet.specs.Packet.{timeCodeAt, captionsAt, closingAt, 
 
 -- a packet whose header is kept has a byte 4
 header-long : (p : List ℕ) → verdict (headerChecks p) ≡ clear → leastSize ≤ length p
-header-long p h = leb-true _ _ (kept-first (sizeCheck p leastSize) (drop 1 (headerChecks p)) h)
+header-long p h = leb-true _ _ (kept-at 0 (headerChecks p) h)
 
 pub packet-inside : (p : List ℕ) → Inside (length p) (packetChecks p)
 unfolding packetChecks

@@ -1,44 +1,22 @@
 -- A packet, section by section: what the definition gives where a section is the first that is refused,
 -- and where none is.
 -- Assumes nothing.
-use mathlib.Core.Bool.{Bool, true, false, _&&_, true≢false}
-use mathlib.Core.List.{List, [], _∷_, _++_}
+use mathlib.Core.Bool.{Bool, true, false, true≢false}
+use mathlib.Core.List.{List, _++_}
 use mathlib.Core.Path.{_≡_, _∙_, sym, refl, ap}
 use Prim.Native.Nat.{ℕ, _≤_}
 use native.Mathlib.Omega.{arith}
 use borrow.Author.Tests.{eqb-true}
 use lib.Dec.{eqb}
 use lib.ListN.{length}
-use Rattle.basis.proofs.Verdicts.{
-  and-first,
-  and-second,
-  andThen,
-  done-clear,
-  kept-first,
-  kept-rest,
-  refused-stays,
-  verdict-append,
-}
-use Rattle.basis.specs.Answer.{LengthMismatch, UnknownFramerate, WrongMagic, done}
+use Rattle.basis.proofs.Verdicts.{and-first, and-second, andThen, done-clear, kept-at, refused-stays, verdict-append}
+use Rattle.basis.specs.Answer.{done}
 use Rattle.basis.specs.Bytes.{byte}
-use Rattle.values.specs.Layout.{leastSize, timeCodeSize}
+use Rattle.values.specs.Layout.{timeCodeSize}
 use Rattle.values.specs.Rate.{noRate}
 use Rattle.values.specs.Code.{noFlags}
 use Rattle.values_time.specs.Time.{timeAbsent}
-use Rattle.basis.specs.Check.{
-  Check,
-  Verdict,
-  answer,
-  broken,
-  checkAt,
-  clear,
-  ifClear,
-  placeOf,
-  sizeCheck,
-  sizeWhen,
-  verdict,
-  when,
-}
+use Rattle.basis.specs.Check.{Check, Verdict, answer, broken, clear, ifClear, placeOf, sizeWhen, verdict, when}
 use Rattle.basis.specs.Code.{sized, tested}
 use Rattle.read_captions.specs.Captions.{captionsChecks, captionsSize}
 use Rattle.read_captions.specs.Code.{captionsTested}
@@ -255,14 +233,7 @@ module _ (p : List ℕ) where
 
   -- the parts of an accepted packet: its size is the one that it says, and captions, services and footer are clear
   pub size-of-packet : verdict (packetChecks p) ≡ clear → byte p 2 ≡ length p
-  size-of-packet h =
-      let size : Check = checkAt (length p) (eqb (byte p 2) (length p)) (LengthMismatch (byte p 2) (length p)) in
-      let rate : List Check = checkAt 3 (rateOf p .present) UnknownFramerate ∷ [] in
-      let magic : Check = checkAt 0 (eqb (byte p 0) 0x96 && eqb (byte p 1) 0x69) WrongMagic in
-      eqb-true _ _
-      (kept-first size rate
-      (kept-rest magic (size ∷ rate)
-      (kept-rest (sizeCheck p leastSize) (magic ∷ size ∷ rate) (and-first header _ (sym in-order ∙ h)))))
+  size-of-packet h = eqb-true _ _ (kept-at 2 (headerChecks p) (and-first header _ (sym in-order ∙ h)))
 
   pub captions-of-packet : verdict (packetChecks p) ≡ clear → captions ≡ clear
   captions-of-packet h = and-first _ _ (and-second timeCode _ (and-second header _ (sym in-order ∙ h)))

@@ -3,28 +3,27 @@
 -- Assumes nothing.
 use mathlib.Core.Bool.{Bool, Bool·beq, true, false, false≢true}
 use mathlib.Core.List.{List, [], _∷_, _++_}
-use mathlib.Core.Path.{_≡_, _∙_, sym, refl, ap}
+use mathlib.Core.Path.{_≡_, _∙_, refl, ap}
 use Prim.Native.Nat.{ℕ, _+_, _≤_}
 use native.Mathlib.Omega.{arith}
 use borrow.Author.Tests.{eq-eqb, le-leb}
-use lib.Dec.{eqb}
 use lib.ListN.{length}
 use Rattle.basis.proofs.Bools.{and-left, and-right, beq-same}
 use Rattle.basis.proofs.Verdicts.{
   and-clear,
-  and-first,
-  and-second,
   andThen,
-  kept-first,
-  kept-rest,
+  append-first,
+  append-second,
+  kept-at,
+  kept-from,
   moved-kept,
   movedVerdict,
   verdict-append,
   verdict-moved,
 }
-use Rattle.basis.specs.Answer.{ServiceFlagsMismatched, WrongMagic}
+use Rattle.basis.specs.Answer.{ServiceFlagsMismatched}
 use Rattle.basis.specs.Bytes.{byte}
-use Rattle.basis.specs.Check.{Check, checkAt, clear, moved, verdict, sizeCheck}
+use Rattle.basis.specs.Check.{Check, checkAt, clear, moved, verdict}
 use Rattle.values.specs.Layout.{servicesId}
 use Rattle.service_entries.specs.Entries.{sectionChecks}
 use Rattle.service_list.specs.Section.{listOf}
@@ -79,24 +78,14 @@ module _ (p : List ℕ) (f : Flags) (i : ℕ) where
       ∙ verdict-moved i (sectionChecks own)
 
   module _ (kept : verdict (servicesChecks p f i) ≡ clear) where
-    abbrev behind : List Check
-    behind = moved i (sectionChecks own) ++ flagsCheck ∷ []
-
-    own-and-flags : andThen (verdict (moved i (sectionChecks own))) (verdict (flagsCheck ∷ [])) ≡ clear
-    own-and-flags =
-        let two : Check = sizeCheck p (i + 2) in
-        let id : Check = checkAt i (eqb (byte p i) servicesId) WrongMagic in
-        let whole : Check = sizeCheck p (i + servicesSize p i) in
-        sym (verdict-append (moved i (sectionChecks own)) (flagsCheck ∷ []))
-        ∙ kept-rest whole behind (kept-rest id (whole ∷ behind) (kept-rest two (id ∷ whole ∷ behind) kept))
+    own-and-flags : verdict (moved i (sectionChecks own) ++ flagsCheck ∷ []) ≡ clear
+    own-and-flags = kept-from 3 (servicesChecks p f i) kept
 
     pub own-kept : verdict (sectionChecks own) ≡ clear
     own-kept =
-        moved-kept i (sectionChecks own)
-        (and-first (verdict (moved i (sectionChecks own))) (verdict (flagsCheck ∷ [])) own-and-flags)
+        moved-kept i (sectionChecks own) (append-first (moved i (sectionChecks own)) (flagsCheck ∷ []) own-and-flags)
 
     pub flags-kept : FlagsOf f (listOf own)
     flags-kept =
         agreed (listOf own) f
-        (kept-first flagsCheck []
-        (and-second (verdict (moved i (sectionChecks own))) (verdict (flagsCheck ∷ [])) own-and-flags))
+        (kept-at 0 (flagsCheck ∷ []) (append-second (moved i (sectionChecks own)) (flagsCheck ∷ []) own-and-flags))

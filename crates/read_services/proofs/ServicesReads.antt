@@ -1,7 +1,7 @@
 -- Rule 7, test by test: what the definition gives where a test is the first that fails, and where none does.
 -- Assumes nothing.
 use mathlib.Core.Bool.{Bool, Bool·beq, not, true, false}
-use mathlib.Core.List.{List, [], _∷_, _++_}
+use mathlib.Core.List.{List, [], _∷_}
 use mathlib.Core.Path.{_≡_, _∙_, sym, ap}
 use Prim.Native.Nat.{ℕ, _+_, _-_, _/_, _%_, _≤_, _<_}
 use native.Mathlib.Omega.{arith}
@@ -14,8 +14,7 @@ use Rattle.basis.proofs.Places.{byte-of-part}
 use Rattle.basis.proofs.Verdicts.{
   andThen,
   done-clear,
-  kept-first,
-  kept-rest,
+  kept-at,
   moved-refused,
   moved-tested,
   movedVerdict,
@@ -25,9 +24,9 @@ use Rattle.basis.proofs.Verdicts.{
 }
 use Rattle.basis.specs.Answer.{LengthMismatch, ServiceFlagsMismatched, WrongMagic, done, refused}
 use Rattle.basis.specs.Bytes.{byte, part}
-use Rattle.basis.specs.Check.{Check, Verdict, checkAt, clear, moved, sizeCheck, verdict}
+use Rattle.basis.specs.Check.{Check, Verdict, checkAt, clear, moved, verdict}
 use Rattle.basis.specs.Code.{alone, sized, tested}
-use Rattle.values.specs.Layout.{servicesId, sectionLength}
+use Rattle.values.specs.Layout.{sectionLength}
 use Rattle.basis.specs.Mask.{under, x0F}
 use Rattle.service_entries.proofs.SectionPlaces.{section-near, section-within}
 use Rattle.service_entries.specs.Entries.{countOf, sectionChecks}
@@ -164,14 +163,7 @@ module _ (p : List ℕ) (f : Flags) (i : ℕ) where
 
   -- an accepted section has all its bytes
   pub section-there : verdict (servicesChecks p f i) ≡ clear → i + servicesSize p i ≤ length p
-  section-there h =
-      let own : List Check =
-      moved i (sectionChecks (servicesPart p i))
-      ++ checkAt 4 (sameFlags (listOf (servicesPart p i)) f) ServiceFlagsMismatched ∷ [] in
-      let long : Check = sizeCheck p (i + servicesSize p i) in
-      let id : Check = checkAt i (eqb (byte p i) servicesId) WrongMagic in
-      leb-true _ _
-      (kept-first long own (kept-rest id (long ∷ own) (kept-rest (sizeCheck p (i + 2)) (id ∷ long ∷ own) h)))
+  section-there h = leb-true _ _ (kept-at 2 (servicesChecks p f i) h)
 
   -- every refusal's place is inside a packet that has a byte 4, or its end beside 1
   pub services-inside : 5 ≤ length p → Inside (length p) (servicesChecks p f i)

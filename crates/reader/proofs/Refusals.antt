@@ -11,7 +11,7 @@ use borrow.Author.Tests.{eq-eqb, le-leb}
 use lib.Dec.{eqb, leb}
 use lib.ListN.{drop, length, take}
 use lib.Seq.{take-at}
-use Rattle.basis.proofs.Verdicts.{done-clear, kept-rest, refused-not-done, refused-shows}
+use Rattle.basis.proofs.Verdicts.{done-clear, kept-from, refused-not-done, refused-shows}
 use Rattle.basis.specs.Bytes.{byte, over}
 use Rattle.basis.specs.Check.{Verdict, answer, broken, clear, ifClear, placeOf, verdict}
 use Rattle.values.specs.Rate.{noRate}
@@ -126,7 +126,7 @@ module _ (s : CDPParser) (p buffer : List ℕ) where
   unfolding read
   long-refused a b =
       refused-unless (verdict (readChecks p (length buffer))) (captionsLength p)
-      (λ h. let s = size-of-packet p (kept-rest (captionsCheck (length buffer)) (packetChecks p) h) in
+      (λ h. let s = size-of-packet p (kept-from 1 (readChecks p (length buffer)) h) in
       omega (arith, a, b, s))
 
   -- no refusal, 11 or another, changes the service list or whether there is one
@@ -145,7 +145,7 @@ module _ (s : CDPParser) (p buffer : List ℕ) where
         refused-unless (verdict (readChecks p (length buffer))) (captionsLength p)
         (λ h. wrong
         (checksum-kept p (sequenceIn p) (closingAt p)
-        (closing-of-packet p (kept-rest (captionsCheck (length buffer)) (packetChecks p) h))))
+        (closing-of-packet p (kept-from 1 (readChecks p (length buffer)) h))))
 
     pub no-list-from-bad-checksum : given .parser .«service_info» ≡ s .«service_info»
     no-list-from-bad-checksum = list-only-from-accepted bad-checksum-refused
@@ -165,4 +165,4 @@ module _ (s : CDPParser) (p buffer : List ℕ) where
       ap
       (λ (v : Verdict). take (answer v (captionsLength p) .first) (ifClear v (over 0 (captionsOf p) buffer) buffer)) all
       ∙ take-at (captionsOf p) (drop (0 + length (captionsOf p)) buffer) (captionsLength p)
-      (captions-long p (kept-rest (captionsCheck (length buffer)) (packetChecks p) all))
+      (captions-long p (kept-from 1 (readChecks p (length buffer)) all))

@@ -9,15 +9,15 @@ use native.Mathlib.Numerals.{add-one}
 use native.Mathlib.Omega.{arith}
 use borrow.Author.Tests.{eq-eqb, ne-eqb, eqb-true, le-leb, lt-leb}
 use lib.Dec.{eqb}
-use lib.ListN.{length, set, replicate, length-append}
+use lib.ListN.{drop, length, set, replicate, length-append}
 use lib.Seq.{append-snoc, set-append-seam}
 use Rattle.basis.proofs.Verdicts.{
-  and-first,
-  and-second,
   andThen,
+  append-first,
+  append-second,
   done-clear,
-  kept-first,
-  kept-rest,
+  kept-at,
+  kept-from,
   moved-clear,
   moved-kept,
   moved-outcome,
@@ -30,9 +30,8 @@ use Rattle.basis.proofs.Verdicts.{
 }
 use Rattle.basis.specs.Answer.{LengthMismatch, WrongMagic, InvalidFixedBits, ServiceNumberMismatch, done, refused}
 use Rattle.basis.specs.Bytes.{byte}
-use Rattle.basis.specs.Check.{Check, Verdict, checkAt, clear, moved, sizeCheck, verdict, answer, placeOf, ifClear}
+use Rattle.basis.specs.Check.{Check, Verdict, checkAt, clear, moved, verdict, answer, placeOf, ifClear}
 use Rattle.basis.specs.Code.{outcome, outcomeAt}
-use Rattle.basis.specs.Mask.{allSet, x80, x40, x20}
 use Rattle.values.specs.Layout.{servicesId, sectionLength, sectionEntrySize}
 use Rattle.service_entry.specs.Entry.{entryChecks, entryOf, entryRead}
 use Rattle.service_entries.specs.Entries.{
@@ -334,56 +333,32 @@ module _ (d : List ℕ) where
       let e : from ≡ from + sectionEntrySize * 0 = omega arith in
       rw (← e)
       (moved-kept from (checksAt d from)
-      (and-first (verdict (moved from (checksAt d from))) (verdict (entryListChecks d (from + sectionEntrySize) n))
-      (sym (verdict-append (moved from (checksAt d from)) (entryListChecks d (from + sectionEntrySize) n)) ∙ v)))
+      (append-first (moved from (checksAt d from)) (entryListChecks d (from + sectionEntrySize) n) v))
   at-kept from (suc n) (suc k) h v =
       let e : from + sectionEntrySize + sectionEntrySize * k ≡ from + sectionEntrySize * suc k = omega arith in
       rw (← e)
       (at-kept (from + sectionEntrySize) n k (omega arith)
-      (and-second (verdict (moved from (checksAt d from))) (verdict (entryListChecks d (from + sectionEntrySize) n))
-      (sym (verdict-append (moved from (checksAt d from)) (entryListChecks d (from + sectionEntrySize) n)) ∙ v)))
+      (append-second (moved from (checksAt d from)) (entryListChecks d (from + sectionEntrySize) n) v))
 
   pub entry-held : (from count k : ℕ) → verdict (entryListChecks d from count) ≡ clear → k < count
       → entryRead (sixBehind d (from + sectionEntrySize * k)) .entry ≡ entryOf (sixBehind d (from + sectionEntrySize * k))
   unfolding entryRead
   entry-held from count k v h =
       let at : ℕ = from + sectionEntrySize * k in
-      let bit : Check = checkAt 0 (allSet x80 (byte d at)) InvalidFixedBits in
-      let named : Check = checkAt 0 (not (allSet x40 (byte d at)) || allSet x20 (byte d at)) InvalidFixedBits in
-      let behind : List Check = moved 1 (entryChecks (sixBehind d at)) ++ numberCheck d at ∷ [] in
+      let behind : verdict (drop 2 (checksAt d at)) ≡ clear = kept-from 2 (checksAt d at) (at-kept from count k h v) in
       let own : verdict (entryChecks (sixBehind d at)) ≡ clear =
       moved-kept 1 (entryChecks (sixBehind d at))
-      (and-first _ (verdict (numberCheck d at ∷ []))
-      (sym (verdict-append (moved 1 (entryChecks (sixBehind d at))) (numberCheck d at ∷ []))
-      ∙ kept-rest named behind (kept-rest bit (named ∷ behind) (at-kept from count k h v)))) in
+      (append-first (moved 1 (entryChecks (sixBehind d at))) (numberCheck d at ∷ []) behind) in
       rw own
 
 -- a section that is right has all its bytes, and its entries are right
 module _ (d : List ℕ) (right : verdict (sectionChecks d) ≡ clear) where
-  abbrev idCheck : Check
-  idCheck = checkAt 0 (eqb (byte d 0) servicesId) WrongMagic
-
-  abbrev bitCheck : Check
-  bitCheck = checkAt 1 (allSet x80 (byte d 1)) InvalidFixedBits
-
-  abbrev lengthCheck : Check
-  lengthCheck =
-      checkAt (length d) (eqb (length d) (sectionLength (countOf d))) (LengthMismatch (sectionLength (countOf d)) (length d))
-
-  abbrev own : List Check
-  own = entryListChecks d 2 (countOf d)
-
-  from-size : verdict (lengthCheck ∷ own) ≡ clear
-  unfolding sectionChecks
-  from-size =
-      kept-rest bitCheck (lengthCheck ∷ own)
-      (kept-rest idCheck (bitCheck ∷ lengthCheck ∷ own)
-      (kept-rest (sizeCheck d 2) (idCheck ∷ bitCheck ∷ lengthCheck ∷ own) right))
-
   pub section-long : length d ≡ sectionLength (byte d 1 % 16)
+  unfolding sectionChecks
   section-long =
-      let said : length d ≡ sectionLength (countOf d) = eqb-true _ _ (kept-first lengthCheck own from-size) in
+      let said : length d ≡ sectionLength (countOf d) = eqb-true _ _ (kept-at 3 (sectionChecks d) right) in
       omega (arith, said)
 
   pub entries-right : verdict (entryListChecks d 2 (countOf d)) ≡ clear
-  entries-right = kept-rest lengthCheck own from-size
+  unfolding sectionChecks
+  entries-right = kept-from 4 (sectionChecks d) right

@@ -9,7 +9,7 @@ use lib.Dec.{eqb, leb}
 use lib.ListN.{length, take}
 use borrow.Author.Tests.{eq-eqb, ne-eqb, leb-true}
 use Rattle.basis.proofs.Bools.{and-left, and-right}
-use Rattle.basis.proofs.Verdicts.{kept-first}
+use Rattle.basis.proofs.Verdicts.{kept-at}
 use Rattle.basis.specs.Answer.{done}
 use Rattle.basis.specs.Bytes.{byte}
 use Rattle.basis.specs.Check.{verdict, clear}
@@ -145,4 +145,4 @@ entry-written-back e buffer three h =
     let both = room-done (entryCheck e ∷ []) 6 (entryBytes e) buffer h in
     ap (λ (w : Written). entryRead (take (w .answer .first) (w .buffer))) (both .1)
     ∙ ap entryRead (first-bytes (entryBytes e) buffer)
-    ∙ entry-back e three (kept-first (entryCheck e) [] (both .0))
+    ∙ entry-back e three (kept-at 0 (entryCheck e ∷ []) (both .0))

@@ -7,10 +7,10 @@ use Prim.Native.Nat.{ℕ, _/_, _%_, _≤_}
 use native.Mathlib.Omega.{arith}
 use borrow.Author.Tests.{leb-true}
 use lib.Dec.{eqb}
-use lib.ListN.{length, drop}
-use Rattle.basis.proofs.Verdicts.{done-clear, kept-first, refused-shows}
+use lib.ListN.{length}
+use Rattle.basis.proofs.Verdicts.{done-clear, kept-at, refused-shows}
 use Rattle.basis.specs.Bytes.{byte}
-use Rattle.basis.specs.Check.{clear, placeOf, sizeCheck, verdict}
+use Rattle.basis.specs.Check.{clear, placeOf, verdict}
 use Rattle.service_entries.specs.Entries.{countOf, entriesOf, filled, sectionChecks}
 use Rattle.service_entries.specs.Code.{entriesRead}
 use Rattle.service_list.specs.Section.{listOf, listWith, sectionRead}
@@ -48,7 +48,7 @@ module _ (d : List ℕ) where
 
     pub two-bytes : 2 ≤ length d
     unfolding sectionChecks
-    two-bytes = leb-true _ _ (kept-first (sizeCheck d 2) (drop 1 (sectionChecks d)) all-clear)
+    two-bytes = leb-true _ _ (kept-at 0 (sectionChecks d) all-clear)
 
     pub list-read : _≡_ {A = ServiceInfoRead}
         (record { answer = entriesRead d .answer; place = 0; list = listWith (byte d 1) (entriesRead d .services) })

@@ -7,7 +7,7 @@ use Prim.Native.Nat.{ℕ, _≤_}
 use native.Mathlib.Omega.{arith}
 use lib.Dec.{eqb}
 use lib.ListN.{length, length-take, replicate, take}
-use Rattle.basis.proofs.Verdicts.{done-clear, kept-rest}
+use Rattle.basis.proofs.Verdicts.{done-clear, kept-from}
 use Rattle.basis.specs.Answer.{done}
 use Rattle.basis.specs.Check.{Verdict, answer, clear, verdict}
 use Rattle.values.specs.Layout.{captionRoom}
@@ -16,7 +16,7 @@ use Rattle.read_header.specs.Header.{flagsIn}
 use Rattle.read_services.specs.Services.{servicesOf, servicesPart}
 use Rattle.reader.proofs.ReaderReads.{captions-long}
 use Rattle.reader.proofs.Refusals.{acceptance-hands-out, acceptance-shows}
-use Rattle.reader.specs.Reader.{bufferAfter, captionsCheck, captionsOf, read, readChecks}
+use Rattle.reader.specs.Reader.{bufferAfter, captionsOf, read, readChecks}
 use Rattle.reader.specs.Shown.{freshReader, shownBy}
 use Rattle.service_entries.specs.Entries.{places}
 use Rattle.service_list.specs.Section.{listOf}
@@ -33,7 +33,7 @@ module _ (p : List ℕ) (h : eqb (newlyRead p .answer .number) 0 ≡ true) where
   all-clear = done-clear (verdict (readChecks p captionRoom)) (captionsLength p) h
 
   pub packet-kept : verdict (packetChecks p) ≡ clear
-  packet-kept = kept-rest (captionsCheck captionRoom) (packetChecks p) all-clear
+  packet-kept = kept-from 1 (readChecks p captionRoom) all-clear
 
   pub answer-is : newlyRead p .answer ≡ done (captionsLength p)
   unfolding read

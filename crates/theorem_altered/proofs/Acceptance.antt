@@ -8,11 +8,10 @@ use native.Mathlib.Nat.{add-zero}
 use native.Mathlib.Omega.{arith}
 use borrow.Author.Tests.{eqb-true}
 use lib.Dec.{eqb}
-use lib.ListN.{drop, length}
-use Rattle.basis.proofs.Verdicts.{andThen, done-clear, moved-clear, kept-first, kept-rest}
-use Rattle.basis.specs.Answer.{WrongMagic}
+use lib.ListN.{length}
+use Rattle.basis.proofs.Verdicts.{andThen, done-clear, kept-at, moved-clear}
 use Rattle.basis.specs.Bytes.{byte}
-use Rattle.basis.specs.Check.{Check, Verdict, checkAt, clear, ifClear, sizeCheck, sizeWhen, verdict, when}
+use Rattle.basis.specs.Check.{Verdict, clear, ifClear, sizeWhen, verdict, when}
 use Rattle.basis.specs.Mask.{under, xF0}
 use Rattle.values.specs.Flags.{flagsOf}
 use Rattle.values.specs.Layout.{servicesId, sectionLength, timeCodeSize}
@@ -171,11 +170,7 @@ module _ (p q : List ℕ) (a : Altered p q) where
     own-id : byte q at ≡ servicesId
     unfolding sectionChecks
     own-id =
-        let two : Check = sizeCheck own 2 in
-        let first : Check = checkAt 0 (eqb (byte own 0) servicesId) WrongMagic in
-        let id : byte own 0 ≡ servicesId =
-        eqb-true _ _
-        (kept-first first (drop 2 (sectionChecks own)) (kept-rest two (drop 1 (sectionChecks own)) own-clear)) in
+        let id : byte own 0 ≡ servicesId = eqb-true _ _ (kept-at 1 (sectionChecks own) own-clear) in
         ap (byte q) (sym (add-zero at)) ∙ sym (byte-of-part q at (servicesSize q at) 0 (omega arith)) ∙ id
 
     own-fits : at + servicesSize q at ≤ length q

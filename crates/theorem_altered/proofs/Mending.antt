@@ -8,15 +8,15 @@ use Prim.Native.Nat.{ℕ, _+_, _-_, _≤_, _<_}
 use native.Mathlib.Omega.{arith}
 use borrow.Author.Tests.{eqb-true}
 use lib.Dec.{eqb}
-use lib.ListN.{drop, length}
+use lib.ListN.{length}
 use Rattle.basis.proofs.Puts.{length-over}
-use Rattle.basis.proofs.Verdicts.{done-clear, kept-first, kept-rest}
-use Rattle.basis.specs.Answer.{InvalidFixedBits, LengthMismatch, WrongMagic, done}
+use Rattle.basis.proofs.Verdicts.{done-clear, kept-at}
+use Rattle.basis.specs.Answer.{done}
 use Rattle.basis.specs.Bytes.{byte, over, part}
-use Rattle.basis.specs.Check.{Check, checkAt, clear, sizeCheck, sizeWhen, verdict}
-use Rattle.basis.specs.Mask.{allSet, under, x0F, x80}
+use Rattle.basis.specs.Check.{clear, sizeWhen, verdict}
+use Rattle.basis.specs.Mask.{under, x0F}
 use Rattle.values.specs.Flags.{flagsOf}
-use Rattle.values.specs.Layout.{servicesId, sectionLength, footerSize}
+use Rattle.values.specs.Layout.{sectionLength, footerSize}
 use Rattle.service_entries.specs.Entries.{countOf, sectionChecks}
 use Rattle.service_list.specs.Section.{sectionRead}
 use Rattle.read_header.specs.Header.{flagsIn}
@@ -117,18 +117,9 @@ module _ (p : List ℕ) (accepted : verdict (packetChecks p) ≡ clear) (ends : 
     own-long : length section ≡ sectionLength (countOf section)
     unfolding sectionRead sectionChecks
     own-long =
-        let two : Check = sizeCheck section 2 in
-        let id : Check = checkAt 0 (eqb (byte section 0) servicesId) WrongMagic in
-        let bit : Check = checkAt 1 (allSet x80 (byte section 1)) InvalidFixedBits in
-        let size : Check =
-        checkAt (length section) (eqb (length section) (sectionLength (countOf section)))
-        (LengthMismatch (sectionLength (countOf section)) (length section)) in
         let all : verdict (sectionChecks section) ≡ clear =
         done-clear (verdict (sectionChecks section)) 0 (ap (λ (a : Answer). eqb (a .number) 0) wellFormed) in
-        eqb-true _ _
-        (kept-first size (drop 4 (sectionChecks section))
-        (kept-rest bit (drop 3 (sectionChecks section))
-        (kept-rest id (drop 2 (sectionChecks section)) (kept-rest two (drop 1 (sectionChecks section)) all))))
+        eqb-true _ _ (kept-at 3 (sectionChecks section) all)
 
     closing-is : closingAt p ≡ at + length section
     closing-is =

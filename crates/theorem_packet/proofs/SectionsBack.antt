@@ -7,21 +7,12 @@ use Prim.Native.Nat.{ℕ, _+_, _*_, _/_, _%_, _≤_}
 use native.Mathlib.Nat.{add-zero}
 use native.Mathlib.Omega.{arith}
 use borrow.Author.Tests.{eq-eqb, le-leb, leb-true}
-use lib.Dec.{eqb, leb}
+use lib.Dec.{eqb}
 use lib.ListN.{drop, getD, length}
 use Rattle.values_time.proofs.TimeWrites.{time-back}
-use Rattle.basis.proofs.Verdicts.{
-  done-clear,
-  done-value,
-  kept-first,
-  kept-rest,
-  moved-clear,
-  movedVerdict,
-  verdict-moved,
-}
-use Rattle.basis.specs.Answer.{NotWritable}
+use Rattle.basis.proofs.Verdicts.{done-clear, done-value, kept-at, moved-clear, movedVerdict, verdict-moved}
 use Rattle.basis.specs.Bytes.{byte}
-use Rattle.basis.specs.Check.{Check, WriteCheck, check, clear, verdict}
+use Rattle.basis.specs.Check.{Check, clear, verdict}
 use Rattle.values.specs.Layout.{captionsId, servicesId, timeCodeId, sectionLength, timeCodeSize}
 use Rattle.values_time.specs.Time.{noTime, timeBytes, timeChecks, timeOf, timeRead, timeWriteChecks}
 use Rattle.values_time.specs.Code.{InRange}
@@ -46,18 +37,11 @@ use Rattle.values_time.specs.declared.time.TimeCodeRead.{TimeCodeRead}
 -- a time code that can be written is in range
 in-range : (t : TimeCode) → verdict (timeWriteChecks t) ≡ clear → InRange t
 in-range t h =
-    let hours : WriteCheck = check (leb (t .hours) 39) NotWritable in
-    let minutes : WriteCheck = check (leb (t .minutes) 79) NotWritable in
-    let seconds : WriteCheck = check (leb (t .seconds) 79) NotWritable in
-    let frames : WriteCheck = check (leb (t .frames) 39) NotWritable in
-    let second : verdict (minutes ∷ seconds ∷ frames ∷ []) ≡ clear =
-    kept-rest hours (minutes ∷ seconds ∷ frames ∷ []) h in
-    let third : verdict (seconds ∷ frames ∷ []) ≡ clear = kept-rest minutes (seconds ∷ frames ∷ []) second in
     record {
-      hours = leb-true _ _ (kept-first hours (minutes ∷ seconds ∷ frames ∷ []) h);
-      minutes = leb-true _ _ (kept-first minutes (seconds ∷ frames ∷ []) second);
-      seconds = leb-true _ _ (kept-first seconds (frames ∷ []) third);
-      frames = leb-true _ _ (kept-first frames [] (kept-rest seconds (frames ∷ []) third));
+      hours = leb-true _ _ (kept-at 0 (timeWriteChecks t) h);
+      minutes = leb-true _ _ (kept-at 1 (timeWriteChecks t) h);
+      seconds = leb-true _ _ (kept-at 2 (timeWriteChecks t) h);
+      frames = leb-true _ _ (kept-at 3 (timeWriteChecks t) h);
     }
 
 module _ (p : List ℕ) (i : ℕ) (t : TimeCode) (rest : List ℕ) (h : drop i p ≡ timeCodeId ∷ timeBytes t ++ rest)

@@ -3,7 +3,7 @@
 -- Assumes nothing.
 use mathlib.Core.Path.{_≡_, _∙_, sym, refl, ap}
 use mathlib.Core.Bool.{Bool, true, false, false≢true}
-use mathlib.Core.List.{List, _∷_, _++_}
+use mathlib.Core.List.{List, _++_}
 use Prim.Native.Nat.{ℕ, _%_, _≤_, _<_}
 use native.Mathlib.Omega.{arith}
 use borrow.Author.Tests.{eq-eqb, ne-eqb, le-leb, lt-leb, leb-true, leb-false, eqb-true}
@@ -11,24 +11,24 @@ use lib.Dec.{eqb, leb}
 use Rattle.basis.proofs.Bools.{and-left, and-right}
 use Rattle.values.proofs.Rates.{no-row}
 use Rattle.basis.proofs.Verdicts.{
-  and-first,
-  and-second,
   andThen,
+  append-first,
+  append-second,
   done-clear,
   done-value,
-  kept-first,
-  kept-rest,
+  kept-at,
+  kept-from,
   refused-shows,
   refused-stays,
   verdict-append,
 }
 use Rattle.basis.specs.Answer.{UnknownFramerate, WrongCaptionRun, done, refused}
-use Rattle.basis.specs.Check.{WriteCheck, WriteVerdict, answer, check, clear, sizeWhen, verdict, when}
+use Rattle.basis.specs.Check.{WriteCheck, WriteVerdict, answer, clear, sizeWhen, verdict, when}
 use Rattle.values.specs.Rate.{fromId, known, noRate}
 use Rattle.values_time.specs.Time.{timeWriteChecks, timeWritten}
 use Rattle.service_list.proofs.SectionWrites.{value-length}
-use Rattle.service_list.specs.ServiceList.{byteLen, countCheck}
-use Rattle.service_list.specs.SectionWriting.{counted, entryWriteChecks, valueChecks}
+use Rattle.service_list.specs.ServiceList.{byteLen}
+use Rattle.service_list.specs.SectionWriting.{valueChecks}
 use Rattle.service_list.specs.Code.{valueAnswer}
 use Rattle.write_checks.specs.Checks.{
   fullTriplets,
@@ -109,7 +109,7 @@ module _ (services : MaybeServiceInfo) where
 services-most : (present : Bool) (l : ServiceInfo) → verdict (when present (valueChecks l)) ≡ clear
     → sizeWhen present (sectionLength (l .count)) ≤ 107
 services-most true l h =
-    let few : l .count ≤ 15 = leb-true _ _ (kept-first (countCheck l) (entryWriteChecks (counted l)) h) in
+    let few : l .count ≤ 15 = leb-true _ _ (kept-at 0 (valueChecks l) h) in
     omega arith
 services-most false l h = omega arith
 
@@ -235,19 +235,15 @@ pub record Accepted (rate : Framerate) (time : MaybeTimeCode) (services : MaybeS
 pub accepted : (rate : Framerate) (time : MaybeTimeCode) (services : MaybeServiceInfo) (run : ℕ)
     → verdict (packetWriteChecks rate time services run) ≡ clear → Accepted rate time services run
 accepted rate time services run h =
-    let parts : List WriteCheck = timeCodeWriteChecks time ++ servicesWriteChecks services in
-    let triplets : WriteCheck = check (fullTriplets run) WrongCaptionRun in
-    let later : verdict (triplets ∷ parts) ≡ clear =
-    kept-rest (check (known rate) UnknownFramerate) (triplets ∷ parts) h in
-    let full : fullTriplets run ≡ true = kept-first triplets parts later in
-    let both : andThen (verdict (timeCodeWriteChecks time)) (verdict (servicesWriteChecks services)) ≡ clear =
-    sym (verdict-append (timeCodeWriteChecks time) (servicesWriteChecks services)) ∙ kept-rest triplets parts later in
+    let checks : List WriteCheck = packetWriteChecks rate time services run in
+    let full : fullTriplets run ≡ true = kept-at 1 checks h in
+    let parts : verdict (timeCodeWriteChecks time ++ servicesWriteChecks services) ≡ clear = kept-from 2 checks h in
     record {
-      rated = kept-first (check (known rate) UnknownFramerate) (triplets ∷ parts) h;
+      rated = kept-at 0 checks h;
       short = leb-true _ _ (and-left _ _ full);
       whole = eqb-true _ _ (and-right (leb run 93) _ full);
-      timed = and-first _ _ both;
-      served = and-second (verdict (timeCodeWriteChecks time)) _ both;
+      timed = append-first (timeCodeWriteChecks time) (servicesWriteChecks services) parts;
+      served = append-second (timeCodeWriteChecks time) (servicesWriteChecks services) parts;
     }
 
 -- The longest packet that is written has 218 bytes.
