@@ -22,7 +22,7 @@ use Rattle.basis.specs.Check.{
   verdict,
   answer,
   placeOf,
-  ruleAt,
+  movedRule,
   ifClear,
 }
 use Rattle.basis.specs.Code.{alone, outcome, outcomeAt, tested}
@@ -48,10 +48,10 @@ broken-not-clear rule h = true≢false (ap (λ (v : VerdictOf _). ifClear v fals
 -- a verdict moved to where its part stands: the same refusal, its place counted from there
 abbrev pub movedVerdict : ℕ → Verdict → Verdict
 movedVerdict from clear = clear
-movedVerdict from (broken rule) = broken (ruleAt (from + rule .place) (rule .refusal))
+movedVerdict from (broken rule) = broken (movedRule from rule)
 
 moved-step : (from : ℕ) (kept : Bool) (rule : RuleAt ℕ) (u v : Verdict) → u ≡ movedVerdict from v
-    → cond kept u (broken (ruleAt (from + rule .place) (rule .refusal)))
+    → cond kept u (broken (movedRule from rule))
     ≡ movedVerdict from (cond kept v (broken rule))
 moved-step from true rule u v e = e
 moved-step from false rule u v e = refl
@@ -71,7 +71,7 @@ moved-kept from cs h = as-clear (verdict cs) (sym (verdict-moved from cs) ∙ h)
   where
     as-clear : (v : Verdict) → movedVerdict from v ≡ clear → v ≡ clear
     as-clear clear e = refl
-    as-clear (broken rule) e = absurd (broken-not-clear (ruleAt (from + rule .place) (rule .refusal)) e)
+    as-clear (broken rule) e = absurd (broken-not-clear (movedRule from rule) e)
 
 pub moved-answer : (from : ℕ) (v : Verdict) (length : ℕ) → answer (movedVerdict from v) length ≡ answer v length
 moved-answer from clear length = refl

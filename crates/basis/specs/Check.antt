@@ -55,10 +55,13 @@ when present checks = cond present checks []
 abbrev pub sizeWhen : Bool → ℕ → ℕ
 sizeWhen present size = cond present size 0
 
--- the checks of a part, where it stands in its caller's input: every place is counted from there
+-- a part's rule, where the part stands in its caller's input: the place is counted from there; and so all of its checks
+abbrev pub movedRule : ℕ → RuleAt ℕ → RuleAt ℕ
+movedRule from rule = ruleAt (from + rule .place) (rule .refusal)
+
 abbrev pub moved : ℕ → List Check → List Check
 moved from [] = []
-moved from (c ∷ cs) = checkAt (from + c .rule .place) (c .kept) (c .rule .refusal) ∷ moved from cs
+moved from (c ∷ cs) = record { kept = c .kept; rule = movedRule from (c .rule) } ∷ moved from cs
 
 -- what a list of checks comes to; a refusal is no answer 0 by its type, so no check is broken with "done"
 pub data VerdictOf (P : Type 0) : Type 0 where
