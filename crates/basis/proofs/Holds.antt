@@ -84,14 +84,14 @@ wherever good from cs a = record { it = rw (verdict-moved from cs) (so (verdict 
     so clear h = refl
     so (broken rule) h = h
 
--- a rule of reading: its answer is one of 1 to 9, and its place stands in an input of so many bytes, beside 1, if that may be
--- answered, at the end, else at one of them
+-- A rule of reading answers one of 1 to 9. Beside 1, where it may be answered, its place is the size of the input; beside 2 to
+-- 9 it is one of so many bytes.
 abbrev pub placedIn : Bool → ℕ → RuleAt ℕ → Bool
-placedIn sizes size rule =
-    cond (eqb (refused (rule .refusal) .number) 1) (sizes && eqb (rule .place) size)
+placedIn mayBeOne size rule =
+    cond (eqb (refused (rule .refusal) .number) 1) (mayBeOne && eqb (rule .place) size)
     (leb (refused (rule .refusal) .number) 9 && ltb (rule .place) size)
 
--- with 1, and without
+-- an input of so many bytes, which may be answered 1; and a part of so many, which may not
 abbrev pub Inside : ℕ → List Check → Type 0
 Inside size cs = Holds (placedIn true size) cs
 
@@ -103,40 +103,40 @@ pub at-size : (p : List ℕ) (least : ℕ) {cs : List Check} → (least ≤ leng
 at-size p least later = also (λ _. eq-eqb (length p) (length p) refl) (λ k. later (leb-true least (length p) k))
 
 -- a part that answers no 1, moved to where it stands
-moved-so : (sizes one few : Bool) (from place least size : ℕ) → from + least ≤ size
+moved-so : (mayBeOne one few : Bool) (from place least size : ℕ) → from + least ≤ size
     → cond one false (few && ltb place least) ≡ true
-    → cond one (sizes && eqb (from + place) size) (few && ltb (from + place) size) ≡ true
-moved-so sizes true few from place least size fits h = absurd (false≢true h)
-moved-so sizes false true from place least size fits h =
+    → cond one (mayBeOne && eqb (from + place) size) (few && ltb (from + place) size) ≡ true
+moved-so mayBeOne true few from place least size fits h = absurd (false≢true h)
+moved-so mayBeOne false true from place least size fits h =
     let inner : place < least = ltb-true place least h in
     lt-ltb (from + place) size (omega arith)
-moved-so sizes false false from place least size fits h = absurd (false≢true h)
+moved-so mayBeOne false false from place least size fits h = absurd (false≢true h)
 
-moved-held : (sizes : Bool) (from least size : ℕ) (v : Verdict) → from + least ≤ size → held (placedIn false least) v ≡ true
-    → held (placedIn sizes size) (movedVerdict from v) ≡ true
-moved-held sizes from least size clear fits h = refl
-moved-held sizes from least size (broken rule) fits h =
+moved-held : (mayBeOne : Bool) (from least size : ℕ) (v : Verdict) → from + least ≤ size → held (placedIn false least) v ≡ true
+    → held (placedIn mayBeOne size) (movedVerdict from v) ≡ true
+moved-held mayBeOne from least size clear fits h = refl
+moved-held mayBeOne from least size (broken rule) fits h =
     let number : ℕ = refused (rule .refusal) .number in
-    moved-so sizes (eqb number 1) (leb number 9) from (rule .place) least size fits h
+    moved-so mayBeOne (eqb number 1) (leb number 9) from (rule .place) least size fits h
 
-pub part-inside : (sizes : Bool) (from least size : ℕ) (cs : List Check) → from + least ≤ size → Within least cs
-    → Holds (placedIn sizes size) (moved from cs)
-part-inside sizes from least size cs fits a =
-    record { it = rw (verdict-moved from cs) (moved-held sizes from least size (verdict cs) fits (a .it)) }
+pub part-inside : (mayBeOne : Bool) (from least size : ℕ) (cs : List Check) → from + least ≤ size → Within least cs
+    → Holds (placedIn mayBeOne size) (moved from cs)
+part-inside mayBeOne from least size cs fits a =
+    record { it = rw (verdict-moved from cs) (moved-held mayBeOne from least size (verdict cs) fits (a .it)) }
 
 -- so a place is at most the size of the input
-most-so : (sizes one few : Bool) (place size : ℕ) → cond one (sizes && eqb place size) (few && ltb place size) ≡ true
+most-so : (mayBeOne one few : Bool) (place size : ℕ) → cond one (mayBeOne && eqb place size) (few && ltb place size) ≡ true
     → place ≤ size
 most-so true true few place size h = omega (arith, eqb-true place size h)
 most-so false true few place size h = absurd (false≢true h)
-most-so sizes false true place size h = omega (arith, ltb-true place size h)
-most-so sizes false false place size h = absurd (false≢true h)
+most-so mayBeOne false true place size h = omega (arith, ltb-true place size h)
+most-so mayBeOne false false place size h = absurd (false≢true h)
 
-pub place-most : (sizes : Bool) (size : ℕ) (v : Verdict) → held (placedIn sizes size) v ≡ true → placeOf v ≤ size
-place-most sizes size clear h = omega arith
-place-most sizes size (broken rule) h =
+pub place-most : (mayBeOne : Bool) (size : ℕ) (v : Verdict) → held (placedIn mayBeOne size) v ≡ true → placeOf v ≤ size
+place-most mayBeOne size clear h = omega arith
+place-most mayBeOne size (broken rule) h =
     let number : ℕ = refused (rule .refusal) .number in
-    most-so sizes (eqb number 1) (leb number 9) (rule .place) size h
+    most-so mayBeOne (eqb number 1) (leb number 9) (rule .place) size h
 
 -- and no rule of reading answers 11
 eleven-so : (n : ℕ) (one rest-of-one fits : Bool) → eqb n 1 ≡ one → cond one rest-of-one (leb n 9 && fits) ≡ true
@@ -144,9 +144,9 @@ eleven-so : (n : ℕ) (one rest-of-one fits : Bool) → eqb n 1 ≡ one → cond
 eleven-so n true a fits e h = ne-eqb n 11 (λ k. omega (arith, eqb-true n 1 e))
 eleven-so n false a fits e h = ne-eqb n 11 (λ k. omega (arith, leb-true n 9 (and-left (leb n 9) fits h)))
 
-pub not-eleven : (sizes : Bool) (size : ℕ) (v : Verdict) (length : ℕ) → held (placedIn sizes size) v ≡ true
+pub not-eleven : (mayBeOne : Bool) (size : ℕ) (v : Verdict) (length : ℕ) → held (placedIn mayBeOne size) v ≡ true
     → eqb (answer v length .number) 11 ≡ false
-not-eleven sizes size clear length h = refl
-not-eleven sizes size (broken rule) length h =
+not-eleven mayBeOne size clear length h = refl
+not-eleven mayBeOne size (broken rule) length h =
     let number : ℕ = refused (rule .refusal) .number in
-    eleven-so number (eqb number 1) (sizes && eqb (rule .place) size) (ltb (rule .place) size) refl h
+    eleven-so number (eqb number 1) (mayBeOne && eqb (rule .place) size) (ltb (rule .place) size) refl h

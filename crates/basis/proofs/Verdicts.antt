@@ -1,5 +1,5 @@
--- Verdicts: of two lists of checks one after the other, of checks moved to where their part stands, and what an answer says of
--- its verdict.
+-- Verdicts: of two lists of checks one after the other, of checks moved to where their part stands, of one check by its index,
+-- and what an answer says of its verdict.
 -- Assumes nothing.
 use mathlib.Core.Path.{_≡_, _∙_, sym, refl, ap}
 use mathlib.Core.Bool.{Bool, true, false, cond, true≢false, false≢true}
@@ -27,6 +27,7 @@ use Rattle.basis.specs.Check.{
 }
 use Rattle.basis.specs.Code.{alone, outcome, outcomeAt, tested}
 use Rattle.basis.specs.declared.answer.Answer.{Answer}
+use Rattle.basis.specs.declared.tested.Tested.{Tested}
 
 -- the first verdict, and the second where the first is clear
 abbrev pub andThen : {P : Type 0} → VerdictOf P → VerdictOf P → VerdictOf P
@@ -81,16 +82,23 @@ pub moved-refused : (from : ℕ) (v : Verdict) → eqb (answer v 0 .number) 0 �
     → eqb (answer (movedVerdict from v) 0 .number) 0 ≡ false
 moved-refused from v h = rw (moved-answer from v 0) h
 
--- and what its caller gives beside a refusal is the part's answer, at its own place behind the caller's
+-- and what its caller gives beside a refusal, made of answer, place and the other value, is made of the part's answer, at its
+-- own place behind the caller's
+pub moved-shows : {A R : Type 0} (f : Answer → ℕ → A → R) (from : ℕ) (v : Verdict) (count : ℕ) (value other : A)
+    → eqb (answer v 0 .number) 0 ≡ false
+    → f (answer v 0) (from + placeOf v) other
+    ≡ f (answer (movedVerdict from v) count) (placeOf (movedVerdict from v)) (ifClear (movedVerdict from v) value other)
+moved-shows f from clear count value other h = absurd (true≢false h)
+moved-shows f from (broken rule) count value other h = refl
+
 pub moved-outcome : (from : ℕ) (v : Verdict) → eqb (answer v 0 .number) 0 ≡ false
     → outcomeAt (answer v 0) (from + placeOf v) ≡ outcome (movedVerdict from v)
-moved-outcome from clear h = absurd (true≢false h)
-moved-outcome from (broken rule) h = refl
+moved-outcome from v h = moved-shows (λ (a : Answer) (place size : ℕ). outcomeAt a place) from v 0 0 0 h
 
 pub moved-tested : (from : ℕ) (v : Verdict) (size : ℕ) → eqb (answer v 0 .number) 0 ≡ false
     → alone (answer v 0) (from + placeOf v) ≡ tested (movedVerdict from v) size
-moved-tested from clear size h = absurd (true≢false h)
-moved-tested from (broken rule) size h = refl
+moved-tested from v size h =
+    moved-shows {R = Tested} (λ (a : Answer) (place n : ℕ). record { answer = a; place = place; size = n }) from v 0 size 0 h
 
 -- no refusal has number 0, so that an answer is done exactly where its verdict is clear
 pub refused-not-done : (why : Refusal) → eqb (refused why .number) 0 ≡ false

@@ -4,7 +4,7 @@ ghost use Rattle.basis.specs.Answer as Table;
 ghost use Rattle.basis.specs.Code as Code;
 use crate::answer::Answer;
 
-// The place is counted from the first byte of what is tested: 0 beside 0.
+// The place is 0 beside answer 0. Each test says from which byte its places are counted.
 pub struct Outcome {
     pub answer: Answer,
     pub place: usize,

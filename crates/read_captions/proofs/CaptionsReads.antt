@@ -1,4 +1,5 @@
--- Rule 6, test by test: what the definition gives where a test is the first that fails, and where none does.
+-- Rule 6, test by test: what the definition gives where a test is the first that fails, and where none does;
+-- and where the place of what is refused stands.
 -- Assumes nothing.
 use mathlib.Core.Bool.{Bool, true, false}
 use mathlib.Core.List.{List}

@@ -10,7 +10,7 @@ use values::Packet;
 use values::checksum_byte;
 use values::sequence_count;
 
-// Goes over the future sections from a place on, and tests the footer behind them.
+// Goes over the future sections from a place on, and tests the footer behind them. Places are the packet's.
 pub fn test_closing(packet: &[u8], sequence: u16, at: u8) -> Outcome
     ensures { λ r. ⌜ r ≡ closingRead (now (packet .entry)) sequence at ⌝ }
 {

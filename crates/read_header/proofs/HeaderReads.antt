@@ -1,4 +1,5 @@
--- Rules 2 and 3, test by test: what the definition gives where a test is the first that fails, and where none does.
+-- Rules 2 and 3, test by test: what the definition gives where a test is the first that fails, and where none does;
+-- and where the place of what is refused stands.
 -- Assumes nothing.
 use mathlib.Core.Bool.{true, false}
 use mathlib.Core.List.{List}

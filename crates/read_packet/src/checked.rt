@@ -15,8 +15,9 @@ use values_time::MaybeTimeCode;
 // What reading gives: beside a refusal, nothing but the answer and the place. The list is left for the reader to make
 // when nothing is left that could refuse, so that no refusal and no packet without services copies one.
 pub struct Checked {
-    pub answer: Answer,
+    // In front of the answer, as in CDPParserRead: so the compiler reads a packet in fewer instructions.
     pub place: usize,
+    pub answer: Answer,
     pub framerate: MaybeFramerate,
     pub time_code: MaybeTimeCode,
     pub sequence: u16,

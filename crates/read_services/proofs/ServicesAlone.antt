@@ -21,13 +21,12 @@ use Rattle.basis.proofs.Verdicts.{
   verdict-append,
   verdict-moved,
 }
-use Rattle.basis.specs.Answer.{ServiceFlagsMismatched}
 use Rattle.basis.specs.Bytes.{byte}
-use Rattle.basis.specs.Check.{Check, checkAt, clear, moved, verdict}
+use Rattle.basis.specs.Check.{clear, moved, verdict}
 use Rattle.values.specs.Layout.{servicesId}
 use Rattle.service_entries.specs.Entries.{sectionChecks}
 use Rattle.service_list.specs.Section.{listOf}
-use Rattle.read_services.specs.Services.{sameFlags, servicesPart, servicesChecks, servicesSize}
+use Rattle.read_services.specs.Services.{flagsCheck, sameFlags, servicesChecks, servicesPart, servicesSize}
 use Rattle.service_list.specs.declared.list.ServiceInfo.{ServiceInfo}
 use Rattle.values.specs.declared.flags.Flags.{Flags}
 
@@ -61,9 +60,6 @@ module _ (p : List ℕ) (f : Flags) (i : ℕ) where
   abbrev own : List ℕ
   own = servicesPart p i
 
-  abbrev flagsCheck : Check
-  flagsCheck = checkAt 4 (sameFlags (listOf own) f) ServiceFlagsMismatched
-
   pub alone : i + servicesSize p i ≤ length p → byte p i ≡ servicesId → FlagsOf f (listOf own)
       → verdict (servicesChecks p f i) ≡ movedVerdict i (verdict (sectionChecks own))
   alone fits id flags =
@@ -72,20 +68,20 @@ module _ (p : List ℕ) (f : Flags) (i : ℕ) where
         eq-eqb _ _ id,
         le-leb (i + servicesSize p i) (length p) fits,
       )
-      (verdict-append (moved i (sectionChecks own)) (flagsCheck ∷ [])
+      (verdict-append (moved i (sectionChecks own)) (flagsCheck p f i ∷ [])
       ∙ ap (andThen (verdict (moved i (sectionChecks own)))) (rw (agree (listOf own) f flags))
       ∙ and-clear (verdict (moved i (sectionChecks own))))
       ∙ verdict-moved i (sectionChecks own)
 
   module _ (kept : verdict (servicesChecks p f i) ≡ clear) where
-    own-and-flags : verdict (moved i (sectionChecks own) ++ flagsCheck ∷ []) ≡ clear
+    own-and-flags : verdict (moved i (sectionChecks own) ++ flagsCheck p f i ∷ []) ≡ clear
     own-and-flags = kept-from 3 (servicesChecks p f i) kept
 
     pub own-kept : verdict (sectionChecks own) ≡ clear
     own-kept =
-        moved-kept i (sectionChecks own) (append-first (moved i (sectionChecks own)) (flagsCheck ∷ []) own-and-flags)
+        moved-kept i (sectionChecks own) (append-first (moved i (sectionChecks own)) (flagsCheck p f i ∷ []) own-and-flags)
 
     pub flags-kept : FlagsOf f (listOf own)
     flags-kept =
         agreed (listOf own) f
-        (kept-at 0 (flagsCheck ∷ []) (append-second (moved i (sectionChecks own)) (flagsCheck ∷ []) own-and-flags))
+        (kept-at 0 (flagsCheck p f i ∷ []) (append-second (moved i (sectionChecks own)) (flagsCheck p f i ∷ []) own-and-flags))

@@ -1,4 +1,5 @@
--- Rule 7, test by test: what the definition gives where a test is the first that fails, and where none does.
+-- Rule 7, test by test: what the definition gives where a test is the first that fails, and where none does; and where the
+-- place of what is refused stands.
 -- Assumes nothing.
 use mathlib.Core.Bool.{Bool, Bool·beq, not, true, false}
 use mathlib.Core.List.{List, [], _∷_}
@@ -74,10 +75,12 @@ near p i header =
     omega (arith, section-near (part i size p), long)
 
 -- in a packet its bytes are as many as it says, so that S4 refuses none
+own-size : (p : List ℕ) (i : ℕ) → i + servicesSize p i ≤ length p → length (servicesPart p i) ≡ servicesSize p i
+own-size p i fits = length-take-le (servicesSize p i) (drop i p) (omega (arith, length-drop i p))
+
 pub as-long : (p : List ℕ) (i : ℕ) → i + servicesSize p i ≤ length p
     → length (servicesPart p i) ≡ sectionLength (countOf (servicesPart p i))
-as-long p i fits =
-    length-take-le (servicesSize p i) (drop i p) (omega (arith, length-drop i p)) ∙ sym (ap sectionLength (count-at p i))
+as-long p i fits = own-size p i fits ∙ sym (ap sectionLength (count-at p i))
 
 module _ (p : List ℕ) (f : Flags) (i : ℕ) where
   -- the section's size, as the code has it
@@ -94,8 +97,9 @@ module _ (p : List ℕ) (f : Flags) (i : ℕ) where
   as-size : i + size - i ≡ size
   as-size = omega arith
 
-  abbrev flagsCheck : Check
-  flagsCheck = checkAt 4 (sameFlags (listOf bytes) f) ServiceFlagsMismatched
+  -- 7.4 of them
+  abbrev flagsTest : Check
+  flagsTest = checkAt 4 (sameFlags (listOf bytes) f) ServiceFlagsMismatched
 
   pub not-there : f .«svc_info» ≡ false → alone (done 0) 0 ≡ servicesTested p f i
   unfolding servicesTested
@@ -119,13 +123,13 @@ module _ (p : List ℕ) (f : Flags) (i : ℕ) where
 
         module _ (fits : i + size ≤ length p) where
           -- behind the section's own rules stands the test of the flags
-          as-parts : tested (andThen (movedVerdict i (verdict (sectionChecks bytes))) (verdict (flagsCheck ∷ []))) size
+          as-parts : tested (andThen (movedVerdict i (verdict (sectionChecks bytes))) (verdict (flagsTest ∷ []))) size
               ≡ servicesTested p f i
           unfolding servicesTested
           as-parts =
-              ap (λ (v : Verdict). tested (andThen v (verdict (flagsCheck ∷ []))) size)
+              ap (λ (v : Verdict). tested (andThen v (verdict (flagsTest ∷ []))) size)
               (sym (verdict-moved i (sectionChecks bytes)))
-              ∙ ap (λ (v : Verdict). tested v size) (sym (verdict-append (moved i (sectionChecks bytes)) (flagsCheck ∷ [])))
+              ∙ ap (λ (v : Verdict). tested v size) (sym (verdict-append (moved i (sectionChecks bytes)) (flagsTest ∷ [])))
               ∙ simp (there, le-leb _ _ long, eq-eqb _ _ id, as-count, as-size, le-leb _ _ fits)
 
           pub section-refused : eqb (sectionOutcome bytes .answer .number) 0 ≡ false
@@ -135,7 +139,7 @@ module _ (p : List ℕ) (f : Flags) (i : ℕ) where
               let own : Verdict = verdict (sectionChecks bytes) in
               moved-tested i own size h
               ∙ ap (λ (v : Verdict). tested v size)
-              (sym (refused-stays (movedVerdict i own) (verdict (flagsCheck ∷ [])) 0 (moved-refused i own h)))
+              (sym (refused-stays (movedVerdict i own) (verdict (flagsTest ∷ [])) 0 (moved-refused i own h)))
               ∙ as-parts
 
           -- byte 1 of the section, as the code has it, has the list's flags
@@ -172,10 +176,7 @@ module _ (p : List ℕ) (f : Flags) (i : ℕ) where
       at-size p (i + 2)
       (λ two. fixed (lt-ltb i (length p) (omega arith))
       (at-size p (i + servicesSize p i)
-      (λ fits.
-      let long : length own ≡ servicesSize p i =
-      length-take-le (servicesSize p i) (drop i p) (omega (arith, length-drop i p)) in
-      both (moved i (sectionChecks own)) _
-      (part-inside true i (length own) (length p) (sectionChecks own) (omega (arith, long))
+      (λ fits. both (moved i (sectionChecks own)) _
+      (part-inside true i (length own) (length p) (sectionChecks own) (omega (arith, own-size p i fits))
       (section-within own (as-long p i fits)))
       (fixed (lt-ltb 4 (length p) (omega arith)) none))))

@@ -29,6 +29,10 @@ sameFlags l f =
     Bool·beq (l .start) (f .«svc_info_start»)
     && (Bool·beq (l .change) (f .«svc_info_change») && Bool·beq (l .complete) (f .«svc_info_complete»))
 
+-- 7.4: the section's flags are those of byte 4
+abbrev pub flagsCheck : List ℕ → Flags → ℕ → Check
+flagsCheck p f i = checkAt 4 (sameFlags (listOf (servicesPart p i)) f) ServiceFlagsMismatched
+
 -- 7.1: n is at least i+2; 7.2: byte i is 73; 7.3: n is at least i+2+7s; S1 to S8; 7.4: the flags
 abbrev pub servicesChecks : List ℕ → Flags → ℕ → List Check
 servicesChecks p f i =
@@ -36,7 +40,7 @@ servicesChecks p f i =
     ∷ checkAt i (eqb (byte p i) servicesId) WrongMagic
     ∷ sizeCheck p (i + servicesSize p i)
     ∷ moved i (sectionChecks (servicesPart p i))
-    ++ checkAt 4 (sameFlags (listOf (servicesPart p i)) f) ServiceFlagsMismatched ∷ []
+    ++ flagsCheck p f i ∷ []
 
 -- the section's list, absent where there is no section
 abbrev pub servicesOf : List ℕ → Bool → ℕ → MaybeServiceInfo

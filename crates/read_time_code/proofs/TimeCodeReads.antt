@@ -1,4 +1,5 @@
--- Rule 5, test by test: what the definition gives where a test is the first that fails, and where none does.
+-- Rule 5, test by test: what the definition gives where a test is the first that fails, and where none does;
+-- and where the place of what is refused stands.
 -- Assumes nothing.
 use mathlib.Core.Bool.{Bool, true, false, true≢false}
 use mathlib.Core.List.{List}
@@ -15,7 +16,7 @@ use Rattle.basis.specs.Bytes.{byte}
 use Rattle.basis.specs.Check.{Check, Verdict, answer, broken, clear, ifClear, placeOf, verdict}
 use Rattle.values_time.proofs.TimeReads.{time-within}
 use Rattle.values_time.specs.Time.{noTime, timeAbsent, timeChecks, timePresent, timeRead}
-use Rattle.read_time_code.specs.TimeCode.{timeCodeChecks, timeCodeIn}
+use Rattle.read_time_code.specs.TimeCode.{ofFour, timeCodeChecks, timeCodeIn}
 use Rattle.read_time_code.specs.Code.{noTimeCode, timeCodeRead}
 use Rattle.read_time_code.specs.declared.time_code.TimeCodeSection.{TimeCodeSection}
 use Rattle.basis.specs.declared.answer.Answer.{Answer}
@@ -42,7 +43,7 @@ module _ (p : List ℕ) (i : ℕ) where
   fourRead = timeRead (byte p (i + 1)) (byte p (i + 2)) (byte p (i + 3)) (byte p (i + 4))
 
   abbrev fourChecks : List Check
-  fourChecks = timeChecks (byte p (i + 1)) (byte p (i + 2)) (byte p (i + 3)) (byte p (i + 4))
+  fourChecks = ofFour timeChecks p i
 
   abbrev fourVerdict : Verdict
   fourVerdict = verdict fourChecks

@@ -1,6 +1,6 @@
 -- What the reader's definition promises, in words of its own. The contract of `reader::CDPParser::parse` says that
--- the code's answer and state are `read` and that the buffer is left as `bufferAfter`, so that each of these is about
--- the code.
+-- the code's answer, place and state are `read` and that the buffer is left as `bufferAfter`, so that each of these is
+-- about the code.
 -- Assumes nothing.
 use mathlib.Core.Bool.{Bool, true, false, cond, true≢false}
 use mathlib.Core.List.{List}
@@ -25,14 +25,14 @@ use Rattle.read_packet.proofs.PacketReads.{closing-of-packet, size-of-packet}
 use Rattle.reader.proofs.ReaderReads.{captions-long}
 use Rattle.read_packet.specs.Packet.{captionsLength, closingAt, footerAt, packetChecks}
 use Rattle.reader.specs.Shown.{shownBy}
-use Rattle.reader.specs.Reader.{bufferAfter, captionsCheck, captionsOf, cleared, read, readChecks}
+use Rattle.reader.specs.Reader.{bufferAfter, captionRoomCheck, captionsOf, cleared, read, readChecks}
 use Rattle.reader.specs.declared.parser.CDPParser.{CDPParser}
 use Rattle.reader.specs.declared.parser.CDPParserRead.{CDPParserRead}
 
 -- the definition, with rule 1's test and the packet's verdict as variables
 module _ (enough : Bool) (v : Verdict) (room length : ℕ) (shown s : CDPParser) where
   abbrev whole : Verdict
-  whole = cond enough v (broken (captionsCheck room .rule))
+  whole = cond enough v (broken (captionRoomCheck room .rule))
 
   abbrev gives : CDPParserRead
   gives =
@@ -150,7 +150,7 @@ module _ (s : CDPParser) (p buffer : List ℕ) where
     pub no-list-from-bad-checksum : given .parser .«service_info» ≡ s .«service_info»
     no-list-from-bad-checksum = list-only-from-accepted bad-checksum-refused
 
-  -- answer and state do not depend on what is in the buffer, nor on its length from 95 on
+  -- answer, place and state do not depend on what is in the buffer, nor on its length from 95 on
   pub same-with-any-buffer : (other : List ℕ) → captionRoom ≤ length buffer → captionRoom ≤ length other → given ≡ read s p (length other)
   unfolding read
   same-with-any-buffer other a b = simp (le-leb _ _ a, le-leb _ _ b)

@@ -16,12 +16,12 @@ use Rattle.reader.specs.declared.parser.CDPParser.{CDPParser}
 use Rattle.reader.specs.declared.parser.CDPParserRead.{CDPParserRead}
 
 -- 1.1: room for the most captions, or 11 with that and how many bytes were lent, at place 0
-abbrev pub captionsCheck : ℕ → Check
-captionsCheck room = checkAt 0 (leb captionRoom room) (BufferTooShort captionRoom room)
+abbrev pub captionRoomCheck : ℕ → Check
+captionRoomCheck room = checkAt 0 (leb captionRoom room) (BufferTooShort captionRoom room)
 
 -- and then rules 2 to 9
 abbrev pub readChecks : List ℕ → ℕ → List Check
-readChecks p room = captionsCheck room ∷ packetChecks p
+readChecks p room = captionRoomCheck room ∷ packetChecks p
 
 -- a refused packet: all as in a new reader, the caption-active mark too, and the service list as it was
 abbrev pub cleared : CDPParser → CDPParser

@@ -27,8 +27,8 @@ pub struct CDPParser {
 
 // What reading gives: the answer, the place of the byte that is refused, and the reader as it is from then on.
 pub struct CDPParserRead {
-    pub answer: Answer,
     pub place: usize,
+    pub answer: Answer,
     pub parser: CDPParser,
 }
 

@@ -30,7 +30,7 @@ use Rattle.basis.proofs.Verdicts.{
 }
 use Rattle.basis.specs.Answer.{LengthMismatch, WrongMagic, InvalidFixedBits, ServiceNumberMismatch, done, refused}
 use Rattle.basis.specs.Bytes.{byte}
-use Rattle.basis.specs.Check.{Check, Verdict, checkAt, clear, moved, verdict, answer, placeOf, ifClear}
+use Rattle.basis.specs.Check.{Verdict, clear, moved, verdict, answer, placeOf, ifClear}
 use Rattle.basis.specs.Code.{outcome, outcomeAt}
 use Rattle.values.specs.Layout.{servicesId, sectionLength, sectionEntrySize}
 use Rattle.service_entry.specs.Entry.{entryChecks, entryOf, entryRead}
@@ -42,10 +42,11 @@ use Rattle.service_entries.specs.Entries.{
   filled,
   fillers,
   namedBy,
+  numberCheck,
   sectionChecks,
   sixBehind,
 }
-use Rattle.service_entries.specs.Code.{entriesRead, refusedEntries, sectionOutcome, Framed, outcomeOf}
+use Rattle.service_entries.specs.Code.{entriesRead, refusedEntries, sectionOutcome, Framed, entryOutcome}
 use Rattle.service_entry.specs.Service.{filler, numberOf}
 use Rattle.service_entry.specs.declared.entry.ServiceEntry.{ServiceEntry}
 use Rattle.basis.specs.declared.answer.Answer.{Answer}
@@ -68,20 +69,15 @@ decide header a b =
 abbrev shownEntries : ℕ → Answer → List ServiceEntry → EntriesRead
 shownEntries place a services = record { answer = a; place = place; services = services }
 
--- S8, as the last of the checks at a place
-abbrev numberCheck : List ℕ → ℕ → Check
-numberCheck d at =
-    checkAt 0 (eqb (namedBy (byte d at)) (numberOf (entryOf (sixBehind d at) .service))) ServiceNumberMismatch
-
 -- S5 to S8
 module _ (d : List ℕ) (at : ℕ) where
-  pub header-no-80 : (byte d at / 128 % 2 ≡ 1 → ⊥) → outcomeAt (refused InvalidFixedBits) 0 ≡ outcomeOf d at
-  unfolding outcomeOf
+  pub header-no-80 : (byte d at / 128 % 2 ≡ 1 → ⊥) → outcomeAt (refused InvalidFixedBits) 0 ≡ entryOutcome d at
+  unfolding entryOutcome
   header-no-80 a = simp (ne-eqb _ _ a)
 
   module _ (has-80 : byte d at / 128 % 2 ≡ 1) where
-    pub header-no-20 : byte d at / 32 % 4 ≡ 2 → outcomeAt (refused InvalidFixedBits) 0 ≡ outcomeOf d at
-    unfolding outcomeOf
+    pub header-no-20 : byte d at / 32 % 4 ≡ 2 → outcomeAt (refused InvalidFixedBits) 0 ≡ entryOutcome d at
+    unfolding entryOutcome
     header-no-20 a =
         let with-40 : byte d at / 64 % 2 ≡ 1 = omega arith in
         let no-20 : byte d at / 32 % 2 ≡ 1 → ⊥ = λ h. omega arith in
@@ -104,8 +100,8 @@ module _ (d : List ℕ) (at : ℕ) where
 
       -- an entry that is refused by its own rules: its place is counted from the header byte
       pub entry-refused : eqb (entryRead (sixBehind d at) .answer .number) 0 ≡ false
-          → outcomeAt (entryRead (sixBehind d at) .answer) (1 + entryRead (sixBehind d at) .place) ≡ outcomeOf d at
-      unfolding entryRead outcomeOf
+          → outcomeAt (entryRead (sixBehind d at) .answer) (1 + entryRead (sixBehind d at) .place) ≡ entryOutcome d at
+      unfolding entryRead entryOutcome
       entry-refused h =
           let own : Verdict = verdict (entryChecks (sixBehind d at)) in
           moved-outcome 1 own h
@@ -122,20 +118,20 @@ module _ (d : List ℕ) (at : ℕ) where
         unfolding entryRead
         whole = ap (λ (v : Verdict). ifClear v (entryOf (sixBehind d at)) filler) own-clear
 
-        last-check : outcome (verdict (numberCheck d at ∷ [])) ≡ outcomeOf d at
-        unfolding outcomeOf
+        last-check : outcome (verdict (numberCheck d at ∷ [])) ≡ entryOutcome d at
+        unfolding entryOutcome
         last-check =
             ap (λ (v : Verdict). outcome (andThen (movedVerdict 1 v) (verdict (numberCheck d at ∷ [])))) (sym own-clear)
             ∙ ap outcome (sym as-parts)
 
         pub other-number : (namedBy (byte d at) ≡ numberOf (entryRead (sixBehind d at) .entry .service) → ⊥)
-            → outcomeAt (refused ServiceNumberMismatch) 0 ≡ outcomeOf d at
+            → outcomeAt (refused ServiceNumberMismatch) 0 ≡ entryOutcome d at
         other-number h =
             let other : namedBy (byte d at) ≡ numberOf (entryOf (sixBehind d at) .service) → ⊥ = rw whole at h in
             rw (← last-check) (simp (ne-eqb _ _ other))
 
         pub same-number : namedBy (byte d at) ≡ numberOf (entryRead (sixBehind d at) .entry .service)
-            → outcomeAt (done 0) 0 ≡ outcomeOf d at
+            → outcomeAt (done 0) 0 ≡ entryOutcome d at
         same-number h =
             let same : namedBy (byte d at) ≡ numberOf (entryOf (sixBehind d at) .service) = rw whole at h in
             rw (← last-check) (simp (eq-eqb _ _ same))
@@ -223,9 +219,9 @@ module _ (d : List ℕ) (k count : ℕ) where
       let none : count - k ≡ 0 = omega arith in
       rw none
 
-  pub left-goes-on : k < count → eqb (outcomeOf d (sectionLength k) .answer .number) 0 ≡ true
+  pub left-goes-on : k < count → eqb (entryOutcome d (sectionLength k) .answer .number) 0 ≡ true
       → left d k count ≡ left d (k + 1) count
-  unfolding outcomeOf
+  unfolding entryOutcome
   left-goes-on h r =
       left-step h
       ∙ ap (λ (v : Verdict). andThen v (left d (k + 1) count))
@@ -281,7 +277,7 @@ module _ (d : List ℕ) (framed : Framed d) (at : ℕ) (r : Reached d at) where
   pub entry-there : at < length d → at + sectionEntrySize ≤ length d
   entry-there h = omega (arith, framed .size, r .place, more h)
 
-  pub goes-on : at < length d → eqb (outcomeOf d at .answer .number) 0 ≡ true → Reached d (at + sectionEntrySize)
+  pub goes-on : at < length d → eqb (entryOutcome d at .answer .number) 0 ≡ true → Reached d (at + sectionEntrySize)
   goes-on h done =
       record {
         tested = r .tested + 1;
@@ -289,9 +285,9 @@ module _ (d : List ℕ) (framed : Framed d) (at : ℕ) (r : Reached d at) where
         rest = r .rest ∙ left-goes-on d (r .tested) (byte d 1 % 16) (more h) (rw (r .place) at done);
       }
 
-  pub section-refused : at < length d → eqb (outcomeOf d at .answer .number) 0 ≡ false
-      → outcomeAt (outcomeOf d at .answer) (at + outcomeOf d at .place) ≡ sectionOutcome d
-  unfolding sectionOutcome outcomeOf
+  pub section-refused : at < length d → eqb (entryOutcome d at .answer .number) 0 ≡ false
+      → outcomeAt (entryOutcome d at .answer) (at + entryOutcome d at .place) ≡ sectionOutcome d
+  unfolding sectionOutcome entryOutcome
   section-refused h wrong =
       let own : Verdict = verdict (checksAt d at) in
       moved-outcome at own wrong

@@ -18,9 +18,9 @@ pub record Framed (d : List ℕ) : Type 0 where
   pub fixed : byte d 1 / 128 % 2 ≡ 1
   pub size : length d ≡ sectionLength (byte d 1 % 16)
 
--- what testing a header byte and its entry gives
-unfoldable pub outcomeOf : List ℕ → ℕ → Outcome
-outcomeOf d at = outcome (verdict (checksAt d at))
+-- what testing a header byte and its entry gives, its place counted from the header byte
+unfoldable pub entryOutcome : List ℕ → ℕ → Outcome
+entryOutcome d at = outcome (verdict (checksAt d at))
 
 -- what testing a section alone gives
 unfoldable pub sectionOutcome : List ℕ → Outcome

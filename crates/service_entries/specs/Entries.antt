@@ -45,14 +45,17 @@ namedBy header = cond (allSet x40 header) (under x1F header) (under x3F header)
 abbrev pub sixBehind : List ℕ → ℕ → List ℕ
 sixBehind d at = byte d (at + 1) ∷ byte d (at + 2) ∷ byte d (at + 3) ∷ byte d (at + 4) ∷ byte d (at + 5) ∷ byte d (at + 6) ∷ []
 
--- at a place, S5: bit 80; S6: with 40 also 20; S7: the entry's own rules; S8: the number named is the one held; places are
--- counted from the header byte, which S8 tests
+-- S8: the number that the header byte at a place names is the one that the entry holds
+abbrev pub numberCheck : List ℕ → ℕ → Check
+numberCheck d at = checkAt 0 (eqb (namedBy (byte d at)) (numberOf (entryOf (sixBehind d at) .service))) ServiceNumberMismatch
+
+-- at a place, S5: bit 80; S6: with 40 also 20; S7: the entry's own rules; S8; places are counted from the header byte
 abbrev pub checksAt : List ℕ → ℕ → List Check
 checksAt d at =
     checkAt 0 (allSet x80 (byte d at)) InvalidFixedBits
     ∷ checkAt 0 (not (allSet x40 (byte d at)) || allSet x20 (byte d at)) InvalidFixedBits
     ∷ moved 1 (entryChecks (sixBehind d at))
-    ++ checkAt 0 (eqb (namedBy (byte d at)) (numberOf (entryOf (sixBehind d at) .service))) ServiceNumberMismatch ∷ []
+    ++ numberCheck d at ∷ []
 
 -- so many entries from a place on, first to last: their checks, and what they hold
 abbrev pub entryListChecks : List ℕ → ℕ → ℕ → List Check

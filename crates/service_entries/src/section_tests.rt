@@ -12,7 +12,7 @@ use service_entry::FieldOrService;
 use service_entry::ServiceEntry;
 use values::Packet;
 
-// Tests a section that stands alone, and makes nothing of it.
+// Tests a section that stands alone, and makes nothing of it. Places are counted from the section's first byte.
 pub fn test_section(data: &[u8]) -> Outcome
     ensures { λ r. ⌜ r ≡ Code.sectionOutcome (now («data» .entry)) ⌝ }
 {
@@ -56,10 +56,10 @@ fn test_entries(data: &[u8]) -> Outcome
     Outcome::done()
 }
 
-// Tests the header byte at a place and the entry behind it.
+// Tests the header byte at a place and the entry behind it. Its places are counted from the header byte.
 fn test_at(data: &[u8], at: usize) -> Outcome
     requires { ⌜ at + sectionEntrySize ≤ length (now «data») ⌝ }
-    ensures { λ r. ⌜ r ≡ Code.outcomeOf (now («data» .entry)) at ⌝ }
+    ensures { λ r. ⌜ r ≡ Code.entryOutcome (now («data» .entry)) at ⌝ }
 {
     let header = data[at];
     // Bit 80 is set.

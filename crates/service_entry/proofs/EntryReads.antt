@@ -1,4 +1,5 @@
--- Reading an entry, test by test: what the definition gives where a test is the first that fails, and where none does.
+-- Reading an entry, test by test: what the definition gives where a test is the first that fails, and where none does;
+-- and where the place of what is refused stands.
 -- Assumes nothing.
 use mathlib.Core.Path.{_≡_, refl}
 use mathlib.Core.Bool.{Bool, true, false, cond, not}

@@ -5,11 +5,13 @@ use crate::print::word;
 use crate::show;
 use basis::Answer;
 use reader::CDPParser;
+use report::fill;
 use service_list::ServiceEntry;
 use service_list::ServiceInfo;
 
 // The reader is a new one, and the tape's own stays as it is.
 pub fn packet(packet: &[u8], lent: &mut [u8], out: &mut [u8], mut s: State) -> State {
+    fill(lent);
     let fresh = CDPParser::new();
     let read = fresh.parse(packet, lent);
     let answer = read.answer;

@@ -1,20 +1,21 @@
 -- The places: each rule's is inside its input, and a part's checks are moved to where the part stands.
 -- Assumes nothing.
-use mathlib.Core.Bool.{Bool, true, false, cond, _&&_, true≢false, false≢true}
+use mathlib.Core.Bool.{Bool, true, false, cond, _&&_, false≢true}
 use mathlib.Core.List.{List, [], _∷_, _++_}
-use mathlib.Core.Path.{_≡_, _∙_, refl, ap, ap₂}
+use mathlib.Core.Path.{_∙_, _≡_, ap, ap₂, refl, sym}
 use Prim.Native.Nat.{ℕ, zero, suc, _+_, _-_, _*_, _≤_, _<_}
 use native.Mathlib.Omega.{arith}
 use borrow.Author.Tests.{le-leb}
 use lib.Dec.{eqb, leb, ltb}
 use lib.ListN.{length, take}
-use Rattle.basis.proofs.Holds.{held, not-eleven, placedIn}
+use Rattle.basis.proofs.Holds.{Inside, held, not-eleven, placedIn, where-there}
 use Rattle.basis.proofs.Verdicts.{
   andThen,
   append-first,
   append-second,
   moved-kept,
   moved-refused,
+  moved-shows,
   movedVerdict,
   refused-behind,
   refused-not-done,
@@ -22,8 +23,7 @@ use Rattle.basis.proofs.Verdicts.{
   verdict-append,
   verdict-moved,
 }
-use Rattle.basis.specs.Answer.{ServiceFlagsMismatched, ServiceNumberMismatch, refused}
-use Rattle.basis.specs.Bytes.{byte}
+use Rattle.basis.specs.Answer.{refused}
 use Rattle.basis.specs.Check.{
   Check,
   RuleAt,
@@ -33,7 +33,6 @@ use Rattle.basis.specs.Check.{
   answer,
   broken,
   check,
-  checkAt,
   clear,
   moved,
   placeOf,
@@ -42,21 +41,38 @@ use Rattle.basis.specs.Check.{
   when,
 }
 use Rattle.values.specs.Layout.{captionRoom, sectionEntrySize, sectionHeadSize, sectionLength}
+use Rattle.values_time.proofs.TimeReads.{time-within}
+use Rattle.values_time.specs.Time.{timeChecks, timeRead}
 use Rattle.service_entry.proofs.EntryReads.{entry-within}
-use Rattle.service_entry.specs.Entry.{entryChecks, entryOf, entryRead}
-use Rattle.service_entry.specs.Service.{numberOf}
+use Rattle.service_entry.specs.EntryWriting.{entryLength}
+use Rattle.service_entries.specs.Code.{entriesRead, sectionOutcome}
+use Rattle.read_captions.proofs.CaptionsReads.{captions-inside}
+use Rattle.read_captions.specs.Code.{captionsTested}
+use Rattle.read_closing.proofs.ClosingPlaces.{closing-inside}
+use Rattle.read_closing.specs.Code.{closingRead}
+use Rattle.read_header.proofs.HeaderReads.{header-inside}
+use Rattle.read_header.specs.Code.{headerRead}
+use Rattle.read_services.proofs.ServicesReads.{services-inside}
+use Rattle.read_services.specs.Code.{servicesTested}
+use Rattle.read_time_code.proofs.TimeCodeReads.{time-code-inside}
+use Rattle.read_time_code.specs.Code.{timeCodeRead}
+use Rattle.reader.proofs.PacketShown.{checks-answer, checks-place}
+use Rattle.basis.specs.Code.{outcomeAt}
+use Rattle.basis.specs.declared.answer.Answer.{Answer}
+use Rattle.basis.specs.declared.tested.Outcome.{Outcome}
+use Rattle.service_entry.specs.Entry.{entryChecks, entryRead}
 use Rattle.service_entries.proofs.SectionPlaces.{section-inside}
-use Rattle.service_entries.specs.Entries.{checksAt, countOf, entryListChecks, frameChecks, namedBy, sectionChecks, sixBehind}
-use Rattle.service_list.specs.Section.{listOf, sectionRead}
+use Rattle.service_entries.specs.Entries.{checksAt, countOf, entryListChecks, frameChecks, numberCheck, sectionChecks}
+use Rattle.service_list.specs.Section.{sectionRead}
 use Rattle.read_captions.specs.Captions.{captionsChecks}
 use Rattle.read_header.specs.Header.{flagsIn, headerChecks}
 use Rattle.read_packet.proofs.Answers.{packet-inside}
 use Rattle.read_packet.proofs.PacketReads.{in-order}
 use Rattle.read_packet.specs.Packet.{captionsAt, captionsLength, packetChecks, servicesAt, timeCodeAt}
-use Rattle.read_services.specs.Services.{sameFlags, servicesChecks}
+use Rattle.read_services.specs.Services.{flagsCheck, servicesChecks}
 use Rattle.read_time_code.specs.TimeCode.{timeCodeChecks}
 use Rattle.reader.specs.Code.{packetRead}
-use Rattle.reader.specs.Reader.{captionsCheck, read}
+use Rattle.reader.specs.Reader.{captionRoomCheck, read, readChecks}
 use Rattle.theorem_packet.specs.FirstDemand.{refuses}
 use Rattle.theorem_packet.specs.Places.{
   Places,
@@ -99,26 +115,23 @@ stands sizes size (broken rule) count h =
     rw (refused-not-done (rule .refusal), not-eleven sizes size (broken rule) count h)
     (stands-so sizes (eqb number 1) (eqb (rule .place) size) (leb number 9 && ltb (rule .place) size) h)
 
+inside : (size : ℕ) {cs : List Check} → Inside size cs → (count : ℕ)
+    → standsIn size (answer (verdict cs) count) (placeOf (verdict cs)) ≡ true
+inside size {cs} a count = stands true size (verdict cs) count (a .it)
+
 -- rule 1 before the others
 with-room : (enough : Bool) (v : Verdict) (room count size : ℕ) → held (placedIn true size) v ≡ true
-    → standsIn size (answer (cond enough v (broken (captionsCheck room .rule))) count)
-    (placeOf (cond enough v (broken (captionsCheck room .rule)))) ≡ true
+    → standsIn size (answer (cond enough v (broken (captionRoomCheck room .rule))) count)
+    (placeOf (cond enough v (broken (captionRoomCheck room .rule)))) ≡ true
 with-room true v room count size h = stands true size v count h
 with-room false v room count size h = refl
 
 -- what a refused part gives where it stands: its own answer, at its own place behind the caller's
 refused-there : (from : ℕ) (v : Verdict) (count : ℕ) → eqb (answer v 0 .number) 0 ≡ false
     → (answer (movedVerdict from v) count ≡ answer v 0) × (placeOf (movedVerdict from v) ≡ from + placeOf v)
-refused-there from clear count h = absurd (true≢false h)
-refused-there from (broken rule) count h = (refl, refl)
-
--- what stands behind a section's own rules, 7.4, and behind an entry's, S8
-abbrev flagsCheck : List ℕ → List Check
-flagsCheck p = checkAt 4 (sameFlags (listOf (ownSection p)) (flagsIn p)) ServiceFlagsMismatched ∷ []
-
-abbrev numberCheck : List ℕ → ℕ → List Check
-numberCheck d at =
-    checkAt 0 (eqb (namedBy (byte d at)) (numberOf (entryOf (sixBehind d at) .service))) ServiceNumberMismatch ∷ []
+refused-there from v count h =
+    let both = moved-shows (λ (a : Answer) (place none : ℕ). outcomeAt a place) from v count 0 0 h in
+    (ap (λ (o : Outcome). o .answer) (sym both), ap (λ (o : Outcome). o .place) (sym both))
 
 -- a section in a packet
 module _ (p : List ℕ) (on : flagsIn p .«svc_info» ≡ true) (kept : verdict (beforeSection p) ≡ clear) where
@@ -151,7 +164,7 @@ module _ (p : List ℕ) (on : flagsIn p .«svc_info» ≡ true) (kept : verdict 
       verdict-moved i (sectionChecks (ownSection p)) in
       let served : verdict (when (flagsIn p .«svc_info») services) ≡ movedVerdict i own =
       ap (λ (b : Bool). verdict (when b services)) on
-      ∙ refused-behind (take 3 services) (moved i (sectionChecks (ownSection p))) (flagsCheck p) 0 front (rw moved-own moves)
+      ∙ refused-behind (take 3 services) (moved i (sectionChecks (ownSection p))) (flagsCheck p (flagsIn p) i ∷ []) 0 front (rw moved-own moves)
       ∙ moved-own in
       in-order p ∙ rw (header, timed, captioned, served) (refused-stays (movedVerdict i own) _ 0 moves)
 
@@ -212,7 +225,7 @@ module _ (d : List ℕ) (k : ℕ) (counted : k < countOf d) (kept : verdict (bef
       let moved-own : verdict (moved 1 (entryChecks (ownEntry d k))) ≡ movedVerdict 1 ownRules =
       verdict-moved 1 (entryChecks (ownEntry d k)) in
       let here : verdict (checksAt d at) ≡ movedVerdict 1 ownRules =
-      refused-behind head (moved 1 (entryChecks (ownEntry d k))) (numberCheck d at) 0 header (rw moved-own moves)
+      refused-behind head (moved 1 (entryChecks (ownEntry d k))) (numberCheck d at ∷ []) 0 header (rw moved-own moves)
       ∙ moved-own in
       verdict-append (frameChecks d) (entryListChecks d sectionHeadSize (countOf d))
       ∙ rw frame
@@ -238,16 +251,28 @@ entry-in-section d k counted kept h =
     )
 
 pub places : Places
-unfolding read packetRead sectionRead entryRead
+unfolding read packetRead sectionRead entryRead timeRead headerRead timeCodeRead captionsTested servicesTested closingRead
+    sectionOutcome entriesRead
 places =
     record {
-      answersStay = answers-stay;
-      partsStay = parts-stay;
       packetStands = λ s p room.
           with-room (leb captionRoom room) (verdict (packetChecks p)) room (captionsLength p) (length p) (packet-inside p .it);
-      statelessStands = λ p. stands true (length p) (verdict (packetChecks p)) (captionsLength p) (packet-inside p .it);
-      sectionStands = λ d. stands true (length d) (verdict (sectionChecks d)) 0 (section-inside d .it);
-      entryStands = λ e. stands false 6 (verdict (entryChecks e)) 0 (entry-within e .it);
+      sectionStands = λ d. inside (length d) (section-inside d) 0;
+      entryStands = λ e. stands false entryLength (verdict (entryChecks e)) 0 (entry-within e .it);
+      timeStands = λ h m s f. stands false 4 (verdict (timeChecks h m s f)) 0 (time-within h m s f .it);
+      headerStands = λ p. inside (length p) (header-inside p) 0;
+      timeCodeStands = λ p present i. inside (length p) (where-there present (time-code-inside p i)) 0;
+      captionsStand = λ p present i. inside (length p) (where-there present (captions-inside p i)) 0;
+      servicesStand = λ p f i five. inside (length p) (where-there (f .«svc_info») (services-inside p f i five)) 0;
+      closingStands = λ p sequence i. inside (length p) (closing-inside p sequence i) 0;
+      sectionTestStands = λ d. inside (length d) (section-inside d) 0;
+      entriesStand = λ d. inside (length d) (section-inside d) 0;
+      checkedStands = λ p. rw (checks-answer p, checks-place p) (inside (length p) (packet-inside p) (captionsLength p));
+      statelessStands = λ p. inside (length p) (packet-inside p) (captionsLength p);
       sectionInPacket = section-in-packet;
       entryInSection = entry-in-section;
+      packetAnswers = λ s p room. answers-stay (readChecks p room) (captionsLength p);
+      sectionAnswers = λ d. answers-stay (sectionChecks d) 0;
+      entryAnswers = λ e. answers-stay (entryChecks e) 0;
+      partsStay = parts-stay;
     }

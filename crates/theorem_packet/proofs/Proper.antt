@@ -20,7 +20,7 @@ use Rattle.service_entry.specs.EntryWriting.{entryCheck}
 use Rattle.service_entries.specs.Entries.{checksAt, countOf, entryListChecks, sectionChecks, sixBehind}
 use Rattle.service_list.specs.SectionWriting.{counted, entryWriteChecks, valueChecks}
 use Rattle.read_header.specs.Header.{flagsIn, headerChecks, sequenceIn}
-use Rattle.read_time_code.specs.TimeCode.{timeCodeChecks}
+use Rattle.read_time_code.specs.TimeCode.{ofFour, timeCodeChecks}
 use Rattle.read_captions.specs.Captions.{captionsChecks, captionsSize}
 use Rattle.read_services.proofs.ServicesReads.{as-long}
 use Rattle.read_services.specs.Services.{servicesPart, servicesChecks, servicesSize}
@@ -143,7 +143,7 @@ module _ (beside : ℕ → ℕ → Bool) (shorter : Shorter beside) where
 
   pub time-code-proper : (p : List ℕ) (i : ℕ) → Proper beside (timeCodeChecks p i)
   time-code-proper p i =
-      let four : List Check = timeChecks (byte p (i + 1)) (byte p (i + 2)) (byte p (i + 3)) (byte p (i + 4)) in
+      let four : List Check = ofFour timeChecks p i in
       size p (i + timeCodeSize)
       (λ _. fixed refl
       (part beside (i + 1) four (time-proper beside (byte p (i + 1)) (byte p (i + 2)) (byte p (i + 3)) (byte p (i + 4)))))

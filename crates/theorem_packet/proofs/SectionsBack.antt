@@ -23,7 +23,7 @@ use Rattle.service_entries.specs.Entries.{sectionChecks}
 use Rattle.service_list.specs.Section.{listOf}
 use Rattle.service_list.specs.SectionWriting.{counted, sectionByte, sectionBytes}
 use Rattle.read_captions.specs.Captions.{captionCount, captionsChecks, captionsSize, handedOut}
-use Rattle.read_time_code.specs.TimeCode.{timeCodeChecks, timeCodeIn}
+use Rattle.read_time_code.specs.TimeCode.{ofFour, timeCodeChecks, timeCodeIn}
 use Rattle.read_services.proofs.ServicesAlone.{FlagsOf, alone}
 use Rattle.read_services.specs.Services.{servicesPart, servicesChecks, servicesSize}
 use Rattle.write_bytes.specs.PacketWriting.{captionsBytes}
@@ -70,7 +70,7 @@ module _ (p : List ℕ) (i : ℕ) (t : TimeCode) (rest : List ℕ) (h : drop i p
   id = rw add-zero at (byte-on p i bytes h 0)
 
   abbrev fourChecks : List Check
-  fourChecks = timeChecks (byte p (i + 1)) (byte p (i + 2)) (byte p (i + 3)) (byte p (i + 4))
+  fourChecks = ofFour timeChecks p i
 
   pub time-clear : i + timeCodeSize ≤ length p → verdict (timeCodeChecks p i) ≡ clear
   time-clear fits =

@@ -1,4 +1,5 @@
--- Reading a time code, test by test: what the definition gives where a test is the first that fails, and where none does.
+-- Reading a time code, test by test: what the definition gives where a test is the first that fails, and where none does;
+-- and where the place of what is refused stands.
 -- Assumes nothing.
 use mathlib.Core.Bool.{false}
 use mathlib.Core.Path.{_≡_, refl}
