@@ -252,55 +252,37 @@ module _ (d : List ℕ) where
       simp (n, le-leb _ _ h, eq-eqb _ _ a, eq-eqb _ _ b, ne-eqb _ _ s)
 
 -- S1 to S4 kept: the entries decide
-frame-kept : (d : List ℕ) → Framed d → verdict (sectionChecks d) ≡ left d 0 (byte d 1 % 16)
-unfolding sectionChecks
-frame-kept d framed =
-    let two : 2 ≤ length d = omega (arith, framed .size) in
-    let count-is : countOf d ≡ byte d 1 % 16 = omega arith in
-    simp (le-leb _ _ two, eq-eqb _ _ (framed .id), eq-eqb _ _ (framed .fixed), count-is, eq-eqb _ _ (framed .size))
-    (left-first d 0 (byte d 1 % 16))
+module _ (d : List ℕ) (header : ℕ) (framed : Framed d header) where
+  count-is : countOf d ≡ header % 16
+  count-is = omega (arith, framed .first)
 
--- The loop's invariant: the place is the one behind so many entries, and what is left to test are those from there on.
-pub record Reached (d : List ℕ) (at : ℕ) : Type 0 where
-  pub tested : ℕ
-  pub place : at ≡ sectionLength tested
-  pub rest : left d 0 (byte d 1 % 16) ≡ left d tested (byte d 1 % 16)
+  frame-kept : verdict (sectionChecks d) ≡ left d 0 (header % 16)
+  unfolding sectionChecks
+  frame-kept =
+      let two : 2 ≤ length d = omega (arith, framed .size) in
+      let fixed : byte d 1 / 128 % 2 ≡ 1 = rw (framed .first) (framed .fixed) in
+      simp (le-leb _ _ two, eq-eqb _ _ (framed .id), eq-eqb _ _ fixed, count-is, eq-eqb _ _ (framed .size))
+      (left-first d 0 (header % 16))
 
-pub begins : (d : List ℕ) → Reached d 2
-begins d = record { tested = 0; place = refl; rest = refl }
-
-module _ (d : List ℕ) (framed : Framed d) (at : ℕ) (r : Reached d at) where
-  -- before the end, a whole entry is left
-  more : at < length d → r .tested < byte d 1 % 16
-  more h = omega (arith, framed .size, r .place)
-
-  pub entry-there : at < length d → at + sectionEntrySize ≤ length d
-  entry-there h = omega (arith, framed .size, r .place, more h)
-
-  pub goes-on : at < length d → eqb (entryOutcome d at .answer .number) 0 ≡ true → Reached d (at + sectionEntrySize)
-  goes-on h done =
-      record {
-        tested = r .tested + 1;
-        place = omega (arith, r .place);
-        rest = r .rest ∙ left-goes-on d (r .tested) (byte d 1 % 16) (more h) (rw (r .place) at done);
-      }
-
-  pub section-refused : at < length d → eqb (entryOutcome d at .answer .number) 0 ≡ false
-      → outcomeAt (entryOutcome d at .answer) (at + entryOutcome d at .place) ≡ sectionOutcome d
+  -- the first that is refused: its place is counted from the section's first byte
+  pub section-refused : (k : ℕ) → k < header % 16 → left d 0 (header % 16) ≡ left d k (header % 16)
+      → eqb (entryOutcome d (sectionLength k) .answer .number) 0 ≡ false
+      → outcomeAt (entryOutcome d (sectionLength k) .answer) (sectionLength k + entryOutcome d (sectionLength k) .place)
+      ≡ sectionOutcome d
   unfolding sectionOutcome entryOutcome
-  section-refused h wrong =
+  section-refused k h so-far wrong =
+      let at : ℕ = sectionLength k in
       let own : Verdict = verdict (checksAt d at) in
       moved-outcome at own wrong
       ∙ ap outcome
-      (sym (refused-stays (movedVerdict at own) (left d (r .tested + 1) (byte d 1 % 16)) 0 (moved-refused at own wrong))
-      ∙ ap (λ (n : ℕ). andThen (movedVerdict n (verdict (checksAt d n))) (left d (r .tested + 1) (byte d 1 % 16))) (r .place)
-      ∙ sym (frame-kept d framed ∙ r .rest ∙ left-step d (r .tested) (byte d 1 % 16) (more h)))
+      (sym (refused-stays (movedVerdict at own) (left d (k + 1) (header % 16)) 0 (moved-refused at own wrong))
+      ∙ sym (frame-kept ∙ so-far ∙ left-step d k (header % 16) h))
 
-  pub section-whole : length d ≤ at → outcomeAt (done 0) 0 ≡ sectionOutcome d
+  pub section-whole : (k : ℕ) → k ≡ header % 16 → left d 0 (header % 16) ≡ left d k (header % 16)
+      → outcomeAt (done 0) 0 ≡ sectionOutcome d
   unfolding sectionOutcome
-  section-whole h =
-      let all : byte d 1 % 16 ≤ r .tested = omega (arith, framed .size, r .place) in
-      ap outcome (sym (frame-kept d framed ∙ r .rest ∙ left-none d (r .tested) (byte d 1 % 16) all))
+  section-whole k h so-far =
+      ap outcome (sym (frame-kept ∙ so-far ∙ left-none d k (header % 16) (omega arith)))
 
 -- reading shows what a section holds where the tests are clear, and fillers where they are not
 module _ (d : List ℕ) where

@@ -13,10 +13,11 @@ use Rattle.basis.specs.declared.tested.Outcome.{Outcome}
 use Rattle.service_entries.specs.declared.entries.EntriesRead.{EntriesRead}
 
 -- S1 to S4 as one fact: what holds where the entries are tested
-pub record Framed (d : List ℕ) : Type 0 where
+pub record Framed (d : List ℕ) (header : ℕ) : Type 0 where
   pub id : byte d 0 ≡ servicesId
-  pub fixed : byte d 1 / 128 % 2 ≡ 1
-  pub size : length d ≡ sectionLength (byte d 1 % 16)
+  pub first : byte d 1 ≡ header
+  pub fixed : header / 128 % 2 ≡ 1
+  pub size : length d ≡ sectionLength (header % 16)
 
 -- what testing a header byte and its entry gives, its place counted from the header byte
 unfoldable pub entryOutcome : List ℕ → ℕ → Outcome

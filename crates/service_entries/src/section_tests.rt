@@ -35,23 +35,22 @@ pub fn test_section(data: &[u8]) -> Outcome
     if size != expected {
         return Outcome::at(Answer::length_mismatch(expected, size), size);
     }
-    test_entries(data)
+    test_entries(data, header)
 }
 
 // Tests the entries behind the section's two bytes, first to last.
-fn test_entries(data: &[u8]) -> Outcome
-    requires { ⌜ Code.Framed (now «data») ⌝ }
+fn test_entries(data: &[u8], header: u8) -> Outcome
+    requires { ⌜ Code.Framed (now «data») header ⌝ }
     ensures { λ r. ⌜ r ≡ Code.sectionOutcome (now («data» .entry)) ⌝ }
 {
-    let size = data.len();
-    let mut at = Packet::SECTION_HEAD_LEN;
-    while at < size {
+    let count = (header % 16) as usize;
+    for k in 0..count {
+        let at = Packet::SECTION_HEAD_LEN + Packet::SECTION_ENTRY_LEN * k;
         let tested = test_at(data, at);
         let answer = tested.answer;
         if !answer.is_done() {
             return Outcome::at(answer, at + tested.place);
         }
-        at += Packet::SECTION_ENTRY_LEN;
     }
     Outcome::done()
 }

@@ -1,39 +1,44 @@
--- `service_entries::section_tests::test_entries`: what is left to test are the entries from the place on that was reached.
+-- `service_entries::section_tests::test_entries`: after k turns what is left to test are the entries from k on.
 -- Assumes nothing.
-use mathlib.Core.Path.{_∙_, ap, sym}
-use Prim.Native.Nat.{_+_, _-_, _≤_}
+use mathlib.Core.Path.{_≡_, _∙_, sym, refl}
+use Prim.Native.Nat.{_≤_, _-_}
 use native.Mathlib.Omega.{arith}
 use borrow.Author.Needs.{needs}
 use borrow.Author.Tests.{not-true, not-false}
-use Rattle.basis.specs.Code.{outcomeAt}
-use Rattle.basis.specs.declared.tested.Outcome.{Outcome}
-use Rattle.service_entries.proofs.SectionEntries.{Reached, begins, entry-there, goes-on, section-refused, section-whole}
+use Rattle.service_entries.proofs.SectionEntries.{left, left-goes-on, section-refused, section-whole}
 use Rattle.service_entries.proofs.SectionPlaces.{at-near}
 use Rattle.service_entries.proofs.section_tests.test_entries.Statement.{statement}
 use Rattle.service_entries.proofs.section_tests.test_entries.Tie as tie
 
 abbrev Inv-loop : tie.InvT-loop
-Inv-loop «data» size at₀ at = Reached «data» at
+Inv-loop «data» header count k₀ k = (k ≤ count) × (left «data» 0 count ≡ left «data» k count)
 
 abbrev μ-loop : tie.MeasureT-loop
-μ-loop «data» size at₀ at = size - at
+μ-loop «data» header count k₀ k = count - k
 
 near : (c : tie.After-test-at Inv-loop μ-loop) → c .test-at .result .place ≤ 7
 near c = rw (c .test-at .ensures) (at-near _ _)
 
+cast-count : tie.Need-cast-count Inv-loop μ-loop
+cast-count c = search needs
+
 loop-holds : tie.Need-loop-holds Inv-loop μ-loop
-loop-holds c = begins (c .before .args .«data» .now)
+loop-holds c = (omega arith, refl)
+
+mul-at : tie.Need-mul-at Inv-loop μ-loop
+mul-at c = search needs
+
+add-at : tie.Need-add-at Inv-loop μ-loop
+add-at c = search needs
 
 test-at-requires : tie.Need-test-at-requires Inv-loop μ-loop
-test-at-requires c κs = entry-there _ (c .before .before .before .pre) _ (c .before .loop .inv) (c .loop-test .taken)
+test-at-requires c κs = omega arith
 
 is-done-requires : tie.Need-is-done-requires Inv-loop μ-loop
 is-done-requires c κs = search needs
 
-add-at : tie.Need-add-at Inv-loop μ-loop
-add-at c =
-    let tested = c .before .before .before .before in
-    omega (arith, near tested)
+add-at-2 : tie.Need-add-at-2 Inv-loop μ-loop
+add-at-2 c = omega (arith, near (c .before .before .before .before))
 
 at-requires : tie.Need-at-requires Inv-loop μ-loop
 at-requires c κs = search needs
@@ -41,41 +46,35 @@ at-requires c κs = search needs
 returns : tie.Need-returns Inv-loop μ-loop
 returns c =
     let refusal = c .before .before in
-    let answered = refusal .before in
-    let tested = answered .before .before in
-    let turn = tested .before in
+    let tested = refusal .before .before .before in
+    let turn = tested .before .before in
     let e = tested .test-at .ensures in
     c .at .ensures
-    ∙ ap (λ (r : Outcome). outcomeAt (r .answer) (turn .before .loop .at + r .place)) e
-    ∙ section-refused _ (turn .before .before .before .pre) _ (turn .before .loop .inv) (turn .loop-test .taken)
-    (rw e at (sym (answered .is-done .ensures) ∙ not-true _ (refusal .if1 .taken)))
+    ∙ rw e
+    (section-refused _ _ (turn .before .before .pre) _ (omega arith) (turn .loop .inv .1)
+    (rw e at (sym (refusal .before .is-done .ensures) ∙ not-true _ (refusal .if1 .taken))))
 
-add-at-2 : tie.Need-add-at-2 Inv-loop μ-loop
-add-at-2 c =
-    let turn = c .before .before .before .before in
-    let there = entry-there _ (turn .before .before .before .pre) _ (turn .before .loop .inv) (turn .loop-test .taken) in
-    omega (arith, there)
+add-k : tie.Need-add-k Inv-loop μ-loop
+add-k c = search needs
 
 loop-less : tie.Need-loop-less Inv-loop μ-loop
-loop-less c =
-    let turn = c .before .before .before .before in
-    let short = turn .loop-test .taken in
-    omega (arith, short)
+loop-less c = search needs
 
 loop-again : tie.Need-loop-again Inv-loop μ-loop
 loop-again c =
     let tested = c .before .before .before in
-    let turn = tested .before in
-    goes-on _ (turn .before .before .before .pre) _ (turn .before .loop .inv) (turn .loop-test .taken)
-    (rw (tested .test-at .ensures) at (sym (c .before .is-done .ensures) ∙ not-false _ (c .if1 .left)))
+    let turn = tested .before .before in
+    let r =
+    rw (tested .test-at .ensures) at (sym (c .before .is-done .ensures) ∙ not-false _ (c .if1 .left)) in
+    (omega arith, turn .loop .inv .1 ∙ left-goes-on _ _ _ (omega arith) r)
 
 done-requires : tie.Need-done-requires Inv-loop μ-loop
 done-requires c κs = search needs
 
 returns-2 : tie.Need-returns-2 Inv-loop μ-loop
 returns-2 c =
-    let end = c .before in
-    c .done .ensures ∙ section-whole _ (end .before .before .before .pre) _ (end .before .loop .inv) (end .loop-test .left)
+    let turn = c .before .before in
+    c .done .ensures ∙ section-whole _ _ (turn .before .before .pre) _ (omega arith) (turn .loop .inv .1)
 
 pub test-entries-spec : {M : Type 1} → statement M
 test-entries-spec =
@@ -83,13 +82,16 @@ test-entries-spec =
     (tie.spec
     Inv-loop
     μ-loop
+    cast-count
     loop-holds
+    mul-at
+    add-at
     test-at-requires
     is-done-requires
-    add-at
+    add-at-2
     at-requires
     returns
-    add-at-2
+    add-k
     loop-less
     loop-again
     done-requires
