@@ -12,6 +12,7 @@ use Rattle.basis.specs.Answer.{Refusal, refused}
 use Rattle.basis.specs.Check.{
   Check,
   CheckOf,
+  Rule,
   RuleAt,
   Verdict,
   VerdictOf,
@@ -51,7 +52,7 @@ abbrev pub movedVerdict : ℕ → Verdict → Verdict
 movedVerdict from clear = clear
 movedVerdict from (broken rule) = broken (movedRule from rule)
 
-moved-step : (from : ℕ) (kept : Bool) (rule : RuleAt ℕ) (u v : Verdict) → u ≡ movedVerdict from v
+moved-step : (from : ℕ) (kept : Bool) (rule : Rule) (u v : Verdict) → u ≡ movedVerdict from v
     → cond kept u (broken (movedRule from rule))
     ≡ movedVerdict from (cond kept v (broken rule))
 moved-step from true rule u v e = e

@@ -6,28 +6,36 @@ use lib.Dec.{leb}
 use lib.ListN.{length}
 use Rattle.basis.specs.Answer.{BufferTooShort, LengthMismatch, Refusal, done, refused}
 use Rattle.basis.specs.declared.answer.Answer.{Answer}
+use Rattle.basis.specs.declared.test.Test.{Test}
 
--- one rule at one place: what is answered where it is broken, and the byte that it tests
+-- one rule: what is answered where it is broken, and what stands beside that
 pub record RuleAt (P : Type 0) : Type 0 where
   pub refusal : Refusal
-  pub place : P
+  pub at : P
 
 -- a rule, and whether it is kept
 pub record CheckOf (P : Type 0) : Type 0 where
   pub kept : Bool
   pub rule : RuleAt P
 
--- what is read has places, counted from the input's first byte
+-- what is read has a numbered test, and the place of the byte that it looks at, counted from the input's first byte
+pub record TestAt : Type 0 where
+  pub test : Test
+  pub place : ℕ
+
+abbrev pub Rule : Type 0
+Rule = RuleAt TestAt
+
 abbrev pub Check : Type 0
-Check = CheckOf ℕ
+Check = CheckOf TestAt
 
-abbrev pub ruleAt : ℕ → Refusal → RuleAt ℕ
-ruleAt place refusal = record { refusal = refusal; place = place }
+abbrev pub ruleAt : ℕ → Test → Refusal → Rule
+ruleAt place test refusal = record { refusal = refusal; at = record { test = test; place = place } }
 
-abbrev pub checkAt : ℕ → Bool → Refusal → Check
-checkAt place kept refusal = record { kept = kept; rule = ruleAt place refusal }
+abbrev pub checkAt : ℕ → Test → Bool → Refusal → Check
+checkAt place test kept refusal = record { kept = kept; rule = ruleAt place test refusal }
 
--- what is written, and a call on a list, has none
+-- what is written, and a call on a list, has neither
 pub data Nowhere : Type 0 where
   noPlace : Nowhere
 
@@ -35,14 +43,14 @@ abbrev pub WriteCheck : Type 0
 WriteCheck = CheckOf Nowhere
 
 abbrev pub unplaced : Refusal → RuleAt Nowhere
-unplaced refusal = record { refusal = refusal; place = noPlace }
+unplaced refusal = record { refusal = refusal; at = noPlace }
 
 abbrev pub check : Bool → Refusal → WriteCheck
 check kept refusal = record { kept = kept; rule = unplaced refusal }
 
 -- at least so many bytes, or 1 with that and how many there are; its place is the input's size
-abbrev pub sizeCheck : List ℕ → ℕ → Check
-sizeCheck p least = checkAt (length p) (leb least (length p)) (LengthMismatch least (length p))
+abbrev pub sizeCheck : Test → List ℕ → ℕ → Check
+sizeCheck test p least = checkAt (length p) test (leb least (length p)) (LengthMismatch least (length p))
 
 -- room for so many bytes, or 11 with that and how many were lent
 abbrev pub roomCheck : ℕ → ℕ → WriteCheck
@@ -56,8 +64,8 @@ abbrev pub sizeWhen : Bool → ℕ → ℕ
 sizeWhen present size = cond present size 0
 
 -- a part's rule, where the part stands in its caller's input: the place is counted from there; and so all of its checks
-abbrev pub movedRule : ℕ → RuleAt ℕ → RuleAt ℕ
-movedRule from rule = ruleAt (from + rule .place) (rule .refusal)
+abbrev pub movedRule : ℕ → Rule → Rule
+movedRule from rule = ruleAt (from + rule .at .place) (rule .at .test) (rule .refusal)
 
 abbrev pub moved : ℕ → List Check → List Check
 moved from [] = []
@@ -69,7 +77,7 @@ pub data VerdictOf (P : Type 0) : Type 0 where
   broken : RuleAt P → VerdictOf P
 
 abbrev pub Verdict : Type 0
-Verdict = VerdictOf ℕ
+Verdict = VerdictOf TestAt
 
 abbrev pub WriteVerdict : Type 0
 WriteVerdict = VerdictOf Nowhere
@@ -87,7 +95,7 @@ answer (broken rule) length = refused (rule .refusal)
 -- the place of what is refused, 0 beside 0
 abbrev pub placeOf : Verdict → ℕ
 placeOf clear = 0
-placeOf (broken rule) = rule .place
+placeOf (broken rule) = rule .at .place
 
 -- one value where all is clear, another beside a refusal
 abbrev pub ifClear : {P A : Type 0} → VerdictOf P → A → A → A

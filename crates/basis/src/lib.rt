@@ -1,11 +1,13 @@
-// What every layer rests on: answers and the checks that they come of, bits, and bytes in a lent buffer.
+// What every layer rests on: answers, the tests and the checks that they come of, bits, and bytes in a lent buffer.
 mod answer;
 mod bits;
 mod buffer;
+mod test;
 mod tested;
 
 pub use answer::Answer;
 pub use bits::flag;
 pub use buffer::put;
+pub use test::Test;
 pub use tested::Outcome;
 pub use tested::Tested;

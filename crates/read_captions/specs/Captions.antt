@@ -5,6 +5,7 @@ use lib.Dec.{eqb}
 use Rattle.basis.specs.Answer.{WrongMagic, InvalidFixedBits}
 use Rattle.basis.specs.Bytes.{byte, part}
 use Rattle.basis.specs.Check.{Check, checkAt, sizeCheck}
+use Rattle.basis.specs.declared.test.Test.the-variants.{CaptionsHead, CaptionsId, CaptionsFixed, CaptionsWhole}
 use Rattle.basis.specs.Mask.{under, allSet, xE0, x1F}
 use Rattle.values.specs.Layout.{captionsId, sectionHeadSize, tripletSize}
 
@@ -18,10 +19,10 @@ captionsSize p i = sectionHeadSize + tripletSize * captionCount p i
 -- 6.1: n is at least i+2; 6.2: byte i is 72; 6.3: byte i+1 has all of E0; 6.4: n is at least i+2+3c
 abbrev pub captionsChecks : List ℕ → ℕ → List Check
 captionsChecks p i =
-    sizeCheck p (i + sectionHeadSize)
-    ∷ checkAt i (eqb (byte p i) captionsId) WrongMagic
-    ∷ checkAt (i + 1) (allSet xE0 (byte p (i + 1))) InvalidFixedBits
-    ∷ sizeCheck p (i + captionsSize p i)
+    sizeCheck CaptionsHead p (i + sectionHeadSize)
+    ∷ checkAt i CaptionsId (eqb (byte p i) captionsId) WrongMagic
+    ∷ checkAt (i + 1) CaptionsFixed (allSet xE0 (byte p (i + 1))) InvalidFixedBits
+    ∷ sizeCheck CaptionsWhole p (i + captionsSize p i)
     ∷ []
 
 -- C0 + c, FF and the 3c bytes

@@ -6,6 +6,7 @@ use lib.Dec.{eqb}
 use Rattle.basis.specs.Answer.{WrongMagic}
 use Rattle.basis.specs.Bytes.{byte}
 use Rattle.basis.specs.Check.{Check, checkAt, moved, sizeCheck}
+use Rattle.basis.specs.declared.test.Test.the-variants.{TimeWhole, TimeId}
 use Rattle.values.specs.Layout.{timeCodeId, timeCodeSize}
 use Rattle.values_time.specs.Time.{timeChecks, timeOf, timePresent, timeAbsent}
 use Rattle.values_time.specs.declared.time.MaybeTimeCode.{MaybeTimeCode}
@@ -18,8 +19,8 @@ ofFour f p i = f (byte p (i + 1)) (byte p (i + 2)) (byte p (i + 3)) (byte p (i +
 -- 5.1: n is at least i+5; 5.2: byte i is 71; 5.3 to 5.5: the fixed bits of the four bytes behind it
 abbrev pub timeCodeChecks : List ℕ → ℕ → List Check
 timeCodeChecks p i =
-    sizeCheck p (i + timeCodeSize)
-    ∷ checkAt i (eqb (byte p i) timeCodeId) WrongMagic
+    sizeCheck TimeWhole p (i + timeCodeSize)
+    ∷ checkAt i TimeId (eqb (byte p i) timeCodeId) WrongMagic
     ∷ moved (i + 1) (ofFour timeChecks p i)
 
 -- what the four bytes say

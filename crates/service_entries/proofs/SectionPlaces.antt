@@ -8,7 +8,7 @@ use native.Mathlib.Omega.{arith}
 use borrow.Author.Tests.{eq-eqb, eqb-true, le-leb, leb-true, lt-ltb}
 use lib.Dec.{eqb}
 use lib.ListN.{length}
-use Rattle.basis.proofs.Holds.{Holds, Inside, Within, also, both, fixed, none, part-inside, place-most, placedIn}
+use Rattle.basis.proofs.Holds.{Holds, Inside, So, Within, also, both, fixed, none, part-inside, place-most, placedIn}
 use Rattle.basis.specs.Check.{moved, verdict}
 use Rattle.values.specs.Layout.{sectionEntrySize, sectionLength}
 use Rattle.service_entry.proofs.EntryReads.{entry-within}
@@ -29,7 +29,7 @@ unfolding entryOutcome
 at-near d at = place-most false 7 (verdict (checksAt d at)) (at-within d at .it)
 
 entries-placed : (mayBeOne : Bool) (d : List ℕ) (at n : ℕ) → at + sectionEntrySize * n ≤ length d
-    → Holds (placedIn mayBeOne (length d)) (entryListChecks d at n)
+    → Holds (So (placedIn mayBeOne (length d))) (entryListChecks d at n)
 entries-placed mayBeOne d at zero fits = none
 entries-placed mayBeOne d at (suc n) fits =
     both (moved at (checksAt d at)) (entryListChecks d (at + sectionEntrySize) n)
@@ -42,7 +42,7 @@ sized true size kept right wrong = eq-eqb size size refl
 sized false size kept right wrong = absurd (true≢false (sym (right refl) ∙ wrong))
 
 section-placed : (mayBeOne : Bool) (d : List ℕ) → (mayBeOne ≡ false → length d ≡ sectionLength (countOf d))
-    → Holds (placedIn mayBeOne (length d)) (sectionChecks d)
+    → Holds (So (placedIn mayBeOne (length d))) (sectionChecks d)
 unfolding sectionChecks
 section-placed mayBeOne d right =
     let two : mayBeOne ≡ false → 2 ≤ length d = λ s. omega (arith, right s) in

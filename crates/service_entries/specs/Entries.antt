@@ -7,6 +7,7 @@ use lib.ListN.{length, replicate}
 use Rattle.basis.specs.Answer.{LengthMismatch, WrongMagic, InvalidFixedBits, ServiceNumberMismatch}
 use Rattle.basis.specs.Bytes.{byte}
 use Rattle.basis.specs.Check.{Check, checkAt, moved, sizeCheck}
+use Rattle.basis.specs.declared.test.Test.the-variants.{SectionHead, SectionId, SectionFixed, SectionSize, HeaderFixed, HeaderForm, HeaderNumber}
 use Rattle.basis.specs.Mask.{under, allSet, x80, x40, x20, x3F, x1F, x0F}
 use Rattle.values.specs.Layout.{sectionEntrySize, sectionHeadSize, sectionLength, servicesId}
 use Rattle.service_entry.specs.Entry.{entryChecks, entryOf}
@@ -31,10 +32,10 @@ countOf d = under x0F (byte d 1)
 -- S1: two bytes; S2: 73; S3: bit 80 of byte 1; S4: seven bytes for each entry behind these two
 abbrev pub frameChecks : List ℕ → List Check
 frameChecks d =
-    sizeCheck d sectionHeadSize
-    ∷ checkAt 0 (eqb (byte d 0) servicesId) WrongMagic
-    ∷ checkAt 1 (allSet x80 (byte d 1)) InvalidFixedBits
-    ∷ checkAt (length d) (eqb (length d) (sectionLength (countOf d))) (LengthMismatch (sectionLength (countOf d)) (length d))
+    sizeCheck SectionHead d sectionHeadSize
+    ∷ checkAt 0 SectionId (eqb (byte d 0) servicesId) WrongMagic
+    ∷ checkAt 1 SectionFixed (allSet x80 (byte d 1)) InvalidFixedBits
+    ∷ checkAt (length d) SectionSize (eqb (length d) (sectionLength (countOf d))) (LengthMismatch (sectionLength (countOf d)) (length d))
     ∷ []
 
 -- S6: with 40 the low five bits of an entry's header byte, without it the low six
@@ -47,13 +48,13 @@ sixBehind d at = byte d (at + 1) ∷ byte d (at + 2) ∷ byte d (at + 3) ∷ byt
 
 -- S8: the number that the header byte at a place names is the one that the entry holds
 abbrev pub numberCheck : List ℕ → ℕ → Check
-numberCheck d at = checkAt 0 (eqb (namedBy (byte d at)) (numberOf (entryOf (sixBehind d at) .service))) ServiceNumberMismatch
+numberCheck d at = checkAt 0 HeaderNumber (eqb (namedBy (byte d at)) (numberOf (entryOf (sixBehind d at) .service))) ServiceNumberMismatch
 
 -- at a place, S5: bit 80; S6: with 40 also 20; S7: the entry's own rules; S8; places are counted from the header byte
 abbrev pub checksAt : List ℕ → ℕ → List Check
 checksAt d at =
-    checkAt 0 (allSet x80 (byte d at)) InvalidFixedBits
-    ∷ checkAt 0 (not (allSet x40 (byte d at)) || allSet x20 (byte d at)) InvalidFixedBits
+    checkAt 0 HeaderFixed (allSet x80 (byte d at)) InvalidFixedBits
+    ∷ checkAt 0 HeaderForm (not (allSet x40 (byte d at)) || allSet x20 (byte d at)) InvalidFixedBits
     ∷ moved 1 (entryChecks (sixBehind d at))
     ++ numberCheck d at ∷ []
 

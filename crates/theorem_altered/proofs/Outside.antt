@@ -10,6 +10,7 @@ use lib.Dec.{eqb}
 use lib.ListN.{length}
 use Rattle.basis.specs.Bytes.{byte}
 use Rattle.basis.specs.Check.{sizeWhen, when, sizeCheck}
+use Rattle.basis.specs.declared.test.Test.the-variants.{ClosingHead}
 use Rattle.values.specs.Layout.{footerSize, timeCodeSize}
 use Rattle.read_captions.specs.Captions.{captionsChecks, captionsSize}
 use Rattle.read_header.specs.Header.{flagsIn, headerChecks}
@@ -156,7 +157,7 @@ module _ (p q : List ℕ) (size : length q ≡ length p) where
         let future : futureChecks (length q) q i ≡ futureChecks (length p) p i =
         ap (λ (n : ℕ). futureChecks n q i) size ∙ steps .0 in
         let place : footerFrom (length q) q i ≡ footer = ap (λ (n : ℕ). footerFrom n q i) size ∙ steps .1 in
-        let room : sizeCheck q (i + 2) ≡ sizeCheck p (i + 2) = rw size in
+        let room : sizeCheck ClosingHead q (i + 2) ≡ sizeCheck ClosingHead p (i + 2) = rw size in
         ap₂ _∷_ room (ap₂ _++_ future (ap (footerChecks q sequence) place ∙ footer-same))
 
 -- what is the same where bytes were put, and how far the packet goes on behind its sections

@@ -9,7 +9,7 @@ use lib.Dec.{eqb}
 use lib.ListN.{length, take}
 use Rattle.basis.proofs.Verdicts.{refused-not-done}
 use Rattle.basis.specs.Answer.{done, refused}
-use Rattle.basis.specs.Check.{RuleAt, Verdict, answer, broken, clear, ifClear, placeOf, verdict}
+use Rattle.basis.specs.Check.{Rule, Verdict, answer, broken, clear, ifClear, placeOf, verdict}
 use Rattle.reader.proofs.Refusals.{acceptance-hands-out}
 use Rattle.read_packet.specs.Packet.{captionsLength, packetChecks}
 use Rattle.reader.specs.Shown.{shownBy}
@@ -91,8 +91,8 @@ pub cleared-with : (e : Excepted) (s : CDPParser) → cleared (withList e s) ≡
 cleared-with nothing s = refl
 cleared-with (listIs l) s = refl
 
-abbrev refusing : RuleAt ℕ → CDPParser → Shown
-refusing rule s = record { answer = refused (rule .refusal); place = rule .place; parser = s; captions = [] }
+abbrev refusing : Rule → CDPParser → Shown
+refusing rule s = record { answer = refused (rule .refusal); place = rule .at .place; parser = s; captions = [] }
 
 stays : (v : Verdict) (length : ℕ) (shown s : CDPParser) (captions : List ℕ) (e : Excepted) (p lent lent′ : List ℕ)
     → given v length shown (withList e s) captions

@@ -6,7 +6,7 @@ use mathlib.Core.Path.{_≡_, refl, sym, ap}
 use Prim.Native.Nat.{ℕ, _-_}
 use lib.Dec.{eqb, leb, ltb}
 use lib.ListN.{length}
-use Rattle.basis.proofs.Holds.{held, none, where-there}
+use Rattle.basis.proofs.Holds.{So, held, none, where-there}
 use Rattle.basis.proofs.Verdicts.{refused-not-done, refused-shows}
 use Rattle.basis.specs.Check.{CheckOf, VerdictOf, WriteVerdict, answer, broken, clear, roomCheck, verdict}
 use Rattle.basis.specs.Bytes.{over}
@@ -68,7 +68,7 @@ use Rattle.service_list.specs.declared.list.ServiceInfo.{ServiceInfo}
 
 -- an answer of checks that are refused as the table has it: of a call that gives a length with 0,
 -- and of one that gives 0
-in-table : {P : Type 0} (measured : Bool) (beside : ℕ → ℕ → Bool) (v : VerdictOf P) (length : ℕ) → held (proper beside) v ≡ true
+in-table : {P : Type 0} (measured : Bool) (beside : ℕ → ℕ → Bool) (v : VerdictOf P) (length : ℕ) → held (So (proper beside)) v
     → (measured || eqb length 0) ≡ true
     → inTable measured beside (answer v length) ≡ true
 in-table measured beside clear length f h = rw h

@@ -8,7 +8,7 @@ use native.Mathlib.Omega.{arith}
 use borrow.Author.Tests.{le-leb}
 use lib.Dec.{eqb, leb, ltb}
 use lib.ListN.{length, take}
-use Rattle.basis.proofs.Holds.{Inside, held, not-eleven, placedIn, where-there}
+use Rattle.basis.proofs.Holds.{Inside, So, held, not-eleven, placedIn, where-there}
 use Rattle.basis.proofs.Verdicts.{
   andThen,
   append-first,
@@ -26,7 +26,7 @@ use Rattle.basis.proofs.Verdicts.{
 use Rattle.basis.specs.Answer.{refused}
 use Rattle.basis.specs.Check.{
   Check,
-  RuleAt,
+  Rule,
   Verdict,
   WriteCheck,
   WriteVerdict,
@@ -91,7 +91,7 @@ answers-stay [] count = refl
 answers-stay (c ∷ cs) count =
     step (c .kept) (c .rule) (verdict cs) (verdict (withoutPlaces cs)) (answers-stay cs count)
   where
-    step : (kept : Bool) (rule : RuleAt ℕ) (v : Verdict) (w : WriteVerdict) → answer v count ≡ answer w count
+    step : (kept : Bool) (rule : Rule) (v : Verdict) (w : WriteVerdict) → answer v count ≡ answer w count
         → answer (cond kept v (broken rule)) count ≡ answer (cond kept w (broken (unplaced (rule .refusal)))) count
     step true rule v w e = e
     step false rule v w e = refl
@@ -107,20 +107,20 @@ stands-so true one ends inside h = h
 stands-so false true ends inside h = absurd (false≢true h)
 stands-so false false ends inside h = h
 
-stands : (sizes : Bool) (size : ℕ) (v : Verdict) (count : ℕ) → held (placedIn sizes size) v ≡ true
+stands : (sizes : Bool) (size : ℕ) (v : Verdict) (count : ℕ) → held (So (placedIn sizes size)) v
     → standsIn size (answer v count) (placeOf v) ≡ true
 stands sizes size clear count h = refl
 stands sizes size (broken rule) count h =
     let number : ℕ = refused (rule .refusal) .number in
     rw (refused-not-done (rule .refusal), not-eleven sizes size (broken rule) count h)
-    (stands-so sizes (eqb number 1) (eqb (rule .place) size) (leb number 9 && ltb (rule .place) size) h)
+    (stands-so sizes (eqb number 1) (eqb (rule .at .place) size) (leb number 9 && ltb (rule .at .place) size) h)
 
 inside : (size : ℕ) {cs : List Check} → Inside size cs → (count : ℕ)
     → standsIn size (answer (verdict cs) count) (placeOf (verdict cs)) ≡ true
 inside size {cs} a count = stands true size (verdict cs) count (a .it)
 
 -- rule 1 before the others
-with-room : (enough : Bool) (v : Verdict) (room count size : ℕ) → held (placedIn true size) v ≡ true
+with-room : (enough : Bool) (v : Verdict) (room count size : ℕ) → held (So (placedIn true size)) v
     → standsIn size (answer (cond enough v (broken (captionRoomCheck room .rule))) count)
     (placeOf (cond enough v (broken (captionRoomCheck room .rule)))) ≡ true
 with-room true v room count size h = stands true size v count h

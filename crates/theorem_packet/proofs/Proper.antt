@@ -8,10 +8,12 @@ use native.Mathlib.Omega.{arith}
 use borrow.Author.Tests.{eqb-false, leb-false, leb-true, lt-ltb, ne-eqb}
 use lib.Dec.{eqb, leb}
 use lib.ListN.{length}
-use Rattle.basis.proofs.Holds.{Holds, also, both, fixed, none, unless-found, where-there, wherever}
-use Rattle.basis.specs.Answer.{InvalidFixedBits, InvalidServiceNumber, Refusal, WouldOverflow, refused}
+use Rattle.basis.proofs.Holds.{Holds, So, also, both, fixed, none, unless-found, where-moved, where-there}
+use Rattle.basis.specs.Answer.{InvalidFixedBits, InvalidServiceNumber, WouldOverflow, refused}
 use Rattle.basis.specs.Bytes.{byte}
 use Rattle.basis.specs.Check.{Check, CheckOf, RuleAt, WriteCheck, check, checkAt, moved, roomCheck, sizeCheck, when}
+use Rattle.basis.specs.declared.test.Test.{Test}
+use Rattle.basis.specs.declared.test.Test.the-variants.{KindField, KindNumber}
 use Rattle.basis.specs.Mask.{allClear, allSet, x3E, x3F, x80}
 use Rattle.values.specs.Layout.{footerId, sectionLength, captionRoom, footerSize, sectionEntrySize, timeCodeSize}
 use Rattle.values_time.specs.Time.{timeChecks, timeWriteChecks}
@@ -44,7 +46,7 @@ proper beside rule = refusalInTable beside (refused (rule .refusal))
 
 -- so does the first of these checks that is broken
 abbrev pub Proper : {P : Type 0} → (ℕ → ℕ → Bool) → List (CheckOf P) → Type 0
-Proper beside cs = Holds (proper beside) cs
+Proper beside cs = Holds (So (proper beside)) cs
 
 -- a lent buffer is too short with less than is needed
 short : (needed lent : ℕ) → leb needed lent ≡ false → smaller needed lent ≡ true
@@ -79,13 +81,13 @@ module _ (beside : ℕ → ℕ → Bool) where
 
   -- E2: both refusals of the kind byte are fixed ones
   kind : (digital kept kept′ : Bool) {cs : List Check} → Proper beside cs
-      → Proper beside (cond digital (checkAt 3 kept InvalidServiceNumber) (checkAt 3 kept′ InvalidFixedBits) ∷ cs)
+      → Proper beside (cond digital (checkAt 3 KindNumber kept InvalidServiceNumber) (checkAt 3 KindField kept′ InvalidFixedBits) ∷ cs)
   kind true kept kept′ later = fixed refl later
   kind false kept kept′ later = fixed refl later
 
   -- a part's checks are the same wherever it stands
   part : (from : ℕ) (cs : List Check) → Proper beside cs → Proper beside (moved from cs)
-  part from cs a = wherever (λ (why : Refusal). refusalInTable beside (refused why)) from cs a
+  part from cs a = where-moved from cs (λ rule h. h) a
 
   pub entry-proper : (e : List ℕ) → Proper beside (entryChecks e)
   entry-proper e =
@@ -136,8 +138,8 @@ module _ (beside : ℕ → ℕ → Bool) where
 
 -- rules that answer 1 where bytes are missing: the parts of a packet behind its header
 module _ (beside : ℕ → ℕ → Bool) (shorter : Shorter beside) where
-  size : (p : List ℕ) (least : ℕ) {cs : List Check} → (least ≤ length p → Proper beside cs)
-      → Proper beside (sizeCheck p least ∷ cs)
+  size : {test : Test} (p : List ℕ) (least : ℕ) {cs : List Check} → (least ≤ length p → Proper beside cs)
+      → Proper beside (sizeCheck test p least ∷ cs)
   size p least later =
       also (λ k. shorter least (length p) (leb-false least (length p) k)) (λ k. later (leb-true least (length p) k))
 
