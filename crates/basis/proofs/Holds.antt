@@ -11,7 +11,7 @@ use lib.ListN.{length}
 use Rattle.basis.proofs.Bools.{and-left}
 use Rattle.basis.proofs.Verdicts.{andThen, movedVerdict, verdict-append, verdict-moved}
 use Rattle.basis.specs.Answer.{refused}
-use Rattle.basis.specs.declared.test.Test.{Test}
+use Rattle.basis.specs.declared.test.SizeTest.{SizeTest}
 use Rattle.basis.specs.Check.{
   Check,
   CheckOf,
@@ -104,7 +104,7 @@ Inside size cs = Holds (So (placedIn true size)) cs
 abbrev pub Within : ℕ → List Check → Type 0
 Within size cs = Holds (So (placedIn false size)) cs
 
-pub at-size : {test : Test} (p : List ℕ) (least : ℕ) {cs : List Check} → (least ≤ length p → Inside (length p) cs)
+pub at-size : {test : SizeTest} (p : List ℕ) (least : ℕ) {cs : List Check} → (least ≤ length p → Inside (length p) cs)
     → Inside (length p) (sizeCheck test p least ∷ cs)
 at-size p least later = also (λ _. eq-eqb (length p) (length p) refl) (λ k. later (leb-true least (length p) k))
 

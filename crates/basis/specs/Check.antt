@@ -6,7 +6,9 @@ use lib.Dec.{leb}
 use lib.ListN.{length}
 use Rattle.basis.specs.Answer.{BufferTooShort, LengthMismatch, Refusal, done, refused}
 use Rattle.basis.specs.declared.answer.Answer.{Answer}
+use Rattle.basis.specs.declared.test.SizeTest.{SizeTest}
 use Rattle.basis.specs.declared.test.Test.{Test}
+use Rattle.basis.specs.declared.test.Test.the-variants.{Size}
 
 -- one rule: what is answered where it is broken, and what stands beside that
 pub record RuleAt (P : Type 0) : Type 0 where
@@ -49,8 +51,8 @@ abbrev pub check : Bool → Refusal → WriteCheck
 check kept refusal = record { kept = kept; rule = unplaced refusal }
 
 -- at least so many bytes, or 1 with that and how many there are; its place is the input's size
-abbrev pub sizeCheck : Test → List ℕ → ℕ → Check
-sizeCheck test p least = checkAt (length p) test (leb least (length p)) (LengthMismatch least (length p))
+abbrev pub sizeCheck : SizeTest → List ℕ → ℕ → Check
+sizeCheck test p least = checkAt (length p) (Size test) (leb least (length p)) (LengthMismatch least (length p))
 
 -- room for so many bytes, or 11 with that and how many were lent
 abbrev pub roomCheck : ℕ → ℕ → WriteCheck

@@ -1,33 +1,59 @@
-// The numbered tests of reading, in the order of the rules.
+// The numbered tests of reading. Each looks at a size, at two bytes together, or at one byte; each kind has its tests in
+// the order of the rules.
 pub enum Test {
-    // 1.1: room for the most captions.
+    Size(SizeTest),
+    Pair(PairTest),
+    Byte(ByteTest),
+}
+
+pub enum SizeTest {
+    // 1.1: the room in the lent buffer.
     CaptionRoom,
-    // 2.1 to 2.3: the least size, 96 69, the size that byte 2 says.
+    // 2.1, 2.3: the least size, and the one that byte 2 says.
     PacketLeast,
-    Magic,
     PacketSize,
+    // 5.1
+    TimeWhole,
+    // 6.1, 6.4
+    CaptionsHead,
+    CaptionsWhole,
+    // 7.1, 7.3
+    ServicesHead,
+    ServicesWhole,
+    // S1, S4
+    SectionHead,
+    SectionSize,
+    // 8.1, 8.3, 8.4
+    ClosingHead,
+    FutureWhole,
+    FutureNext,
+    // 9.1
+    FooterWhole,
+}
+
+pub enum PairTest {
+    // 2.2: 96 69.
+    Magic,
+    // 9.2
+    FooterSequence,
+}
+
+pub enum ByteTest {
     // 3.1
     Rate,
-    // 5.1 to 5.5
-    TimeWhole,
+    // 5.2 to 5.5
     TimeId,
     Hours,
     Minutes,
     Frames,
-    // 6.1 to 6.4
-    CaptionsHead,
+    // 6.2, 6.3
     CaptionsId,
     CaptionsFixed,
-    CaptionsWhole,
-    // 7.1 to 7.3; 7.4 stands behind a section's own.
-    ServicesHead,
+    // 7.2
     ServicesId,
-    ServicesWhole,
-    // S1 to S4
-    SectionHead,
+    // S2, S3
     SectionId,
     SectionFixed,
-    SectionSize,
     // S5, S6: an entry's header byte.
     HeaderFixed,
     HeaderForm,
@@ -41,13 +67,8 @@ pub enum Test {
     HeaderNumber,
     // 7.4
     ServicesFlags,
-    // 8.1 to 8.4
-    ClosingHead,
+    // 8.2
     FutureId,
-    FutureWhole,
-    FutureNext,
-    // 9.1 to 9.3
-    FooterWhole,
-    FooterSequence,
+    // 9.3
     Checksum,
 }

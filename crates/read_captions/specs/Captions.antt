@@ -5,7 +5,9 @@ use lib.Dec.{eqb}
 use Rattle.basis.specs.Answer.{WrongMagic, InvalidFixedBits}
 use Rattle.basis.specs.Bytes.{byte, part}
 use Rattle.basis.specs.Check.{Check, checkAt, sizeCheck}
-use Rattle.basis.specs.declared.test.Test.the-variants.{CaptionsHead, CaptionsId, CaptionsFixed, CaptionsWhole}
+use Rattle.basis.specs.declared.test.SizeTest.the-variants.{CaptionsHead, CaptionsWhole}
+use Rattle.basis.specs.declared.test.ByteTest.the-variants.{CaptionsId, CaptionsFixed}
+use Rattle.basis.specs.declared.test.Test.the-variants.{Byte}
 use Rattle.basis.specs.Mask.{under, allSet, xE0, x1F}
 use Rattle.values.specs.Layout.{captionsId, sectionHeadSize, tripletSize}
 
@@ -20,8 +22,8 @@ captionsSize p i = sectionHeadSize + tripletSize * captionCount p i
 abbrev pub captionsChecks : List ℕ → ℕ → List Check
 captionsChecks p i =
     sizeCheck CaptionsHead p (i + sectionHeadSize)
-    ∷ checkAt i CaptionsId (eqb (byte p i) captionsId) WrongMagic
-    ∷ checkAt (i + 1) CaptionsFixed (allSet xE0 (byte p (i + 1))) InvalidFixedBits
+    ∷ checkAt i (Byte CaptionsId) (eqb (byte p i) captionsId) WrongMagic
+    ∷ checkAt (i + 1) (Byte CaptionsFixed) (allSet xE0 (byte p (i + 1))) InvalidFixedBits
     ∷ sizeCheck CaptionsWhole p (i + captionsSize p i)
     ∷ []
 

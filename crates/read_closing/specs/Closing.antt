@@ -7,7 +7,10 @@ use lib.ListN.{length, take}
 use Rattle.basis.specs.Answer.{WrongMagic, SequenceCountMismatch, ChecksumFailed}
 use Rattle.basis.specs.Bytes.{byte}
 use Rattle.basis.specs.Check.{Check, checkAt, sizeCheck}
-use Rattle.basis.specs.declared.test.Test.the-variants.{ClosingHead, FutureId, FutureWhole, FutureNext, FooterWhole, FooterSequence, Checksum}
+use Rattle.basis.specs.declared.test.SizeTest.the-variants.{ClosingHead, FutureWhole, FutureNext, FooterWhole}
+use Rattle.basis.specs.declared.test.PairTest.the-variants.{FooterSequence}
+use Rattle.basis.specs.declared.test.ByteTest.the-variants.{FutureId, Checksum}
+use Rattle.basis.specs.declared.test.Test.the-variants.{Pair, Byte}
 use Rattle.values.specs.Checksum.{total, negative}
 use Rattle.values.specs.Layout.{footerId, footerSize, sectionHeadSize}
 use Rattle.values.specs.Sequence.{sequenceOf}
@@ -19,7 +22,7 @@ futureLength p i = byte p (i + 1)
 -- 8.2: the id lies in 75 to EF; 8.3: n is at least i+1+L; i moves on by 2+L, and 8.4: n is at least the new i+2
 abbrev pub futureChecksAt : List ℕ → ℕ → List Check
 futureChecksAt p i =
-    checkAt i FutureId (leb 0x75 (byte p i) && leb (byte p i) 0xEF) WrongMagic
+    checkAt i (Byte FutureId) (leb 0x75 (byte p i) && leb (byte p i) 0xEF) WrongMagic
     ∷ sizeCheck FutureWhole p (i + 1 + futureLength p i)
     ∷ sizeCheck FutureNext p (i + sectionHeadSize + futureLength p i + sectionHeadSize)
     ∷ []
@@ -47,8 +50,8 @@ checksumOf p = negative (total (take (length p - 1) p))
 abbrev pub footerChecks : List ℕ → ℕ → ℕ → List Check
 footerChecks p sequence i =
     sizeCheck FooterWhole p (i + footerSize)
-    ∷ checkAt (i + 1) FooterSequence (eqb (sequenceOf (byte p (i + 1)) (byte p (i + 2))) sequence) SequenceCountMismatch
-    ∷ checkAt (i + 3) Checksum (eqb (byte p (i + 3)) (checksumOf p)) ChecksumFailed
+    ∷ checkAt (i + 1) (Pair FooterSequence) (eqb (sequenceOf (byte p (i + 1)) (byte p (i + 2))) sequence) SequenceCountMismatch
+    ∷ checkAt (i + 3) (Byte Checksum) (eqb (byte p (i + 3)) (checksumOf p)) ChecksumFailed
     ∷ []
 
 -- 8.1 to 8.4, and behind them 9.1 to 9.3

@@ -7,7 +7,10 @@ use lib.ListN.{length}
 use Rattle.basis.specs.Answer.{LengthMismatch, WrongMagic, UnknownFramerate}
 use Rattle.basis.specs.Bytes.{byte}
 use Rattle.basis.specs.Check.{Check, checkAt, sizeCheck}
-use Rattle.basis.specs.declared.test.Test.the-variants.{PacketLeast, Magic, PacketSize, Rate}
+use Rattle.basis.specs.declared.test.SizeTest.the-variants.{PacketLeast, PacketSize}
+use Rattle.basis.specs.declared.test.PairTest.the-variants.{Magic}
+use Rattle.basis.specs.declared.test.ByteTest.the-variants.{Rate}
+use Rattle.basis.specs.declared.test.Test.the-variants.{Size, Pair, Byte}
 use Rattle.values.specs.Flags.{flagsOf}
 use Rattle.basis.specs.Mask.{under, xF0}
 use Rattle.values.specs.Layout.{leastSize}
@@ -31,13 +34,13 @@ sequenceIn p = sequenceOf (byte p 5) (byte p 6)
 abbrev pub packetFrameChecks : List ℕ → List Check
 packetFrameChecks p =
     sizeCheck PacketLeast p leastSize
-    ∷ checkAt 0 Magic (eqb (byte p 0) 0x96 && eqb (byte p 1) 0x69) WrongMagic
-    ∷ checkAt (length p) PacketSize (eqb (byte p 2) (length p)) (LengthMismatch (byte p 2) (length p))
+    ∷ checkAt 0 (Pair Magic) (eqb (byte p 0) 0x96 && eqb (byte p 1) 0x69) WrongMagic
+    ∷ checkAt (length p) (Size PacketSize) (eqb (byte p 2) (length p)) (LengthMismatch (byte p 2) (length p))
     ∷ []
 
 -- rule 3. 3.1: one of the eight rates
 abbrev pub rateChecks : List ℕ → List Check
-rateChecks p = checkAt 3 Rate (rateOf p .present) UnknownFramerate ∷ []
+rateChecks p = checkAt 3 (Byte Rate) (rateOf p .present) UnknownFramerate ∷ []
 
 abbrev pub headerChecks : List ℕ → List Check
 headerChecks p = packetFrameChecks p ++ rateChecks p

@@ -26,7 +26,8 @@ use Rattle.basis.proofs.Verdicts.{
 use Rattle.basis.specs.Answer.{LengthMismatch, ServiceFlagsMismatched, WrongMagic, done, refused}
 use Rattle.basis.specs.Bytes.{byte, part}
 use Rattle.basis.specs.Check.{Check, Verdict, checkAt, clear, moved, verdict}
-use Rattle.basis.specs.declared.test.Test.the-variants.{ServicesFlags}
+use Rattle.basis.specs.declared.test.ByteTest.the-variants.{ServicesFlags}
+use Rattle.basis.specs.declared.test.Test.the-variants.{Byte}
 use Rattle.basis.specs.Code.{alone, sized, tested}
 use Rattle.values.specs.Layout.{sectionLength}
 use Rattle.basis.specs.Mask.{under, x0F}
@@ -100,7 +101,7 @@ module _ (p : List ℕ) (f : Flags) (i : ℕ) where
 
   -- 7.4 of them
   abbrev flagsTest : Check
-  flagsTest = checkAt 4 ServicesFlags (sameFlags (listOf bytes) f) ServiceFlagsMismatched
+  flagsTest = checkAt 4 (Byte ServicesFlags) (sameFlags (listOf bytes) f) ServiceFlagsMismatched
 
   pub not-there : f .«svc_info» ≡ false → alone (done 0) 0 ≡ servicesTested p f i
   unfolding servicesTested

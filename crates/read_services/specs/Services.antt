@@ -6,7 +6,9 @@ use lib.Dec.{eqb}
 use Rattle.basis.specs.Answer.{WrongMagic, ServiceFlagsMismatched}
 use Rattle.basis.specs.Bytes.{byte, part}
 use Rattle.basis.specs.Check.{Check, checkAt, moved, sizeCheck}
-use Rattle.basis.specs.declared.test.Test.the-variants.{ServicesHead, ServicesId, ServicesWhole, ServicesFlags}
+use Rattle.basis.specs.declared.test.SizeTest.the-variants.{ServicesHead, ServicesWhole}
+use Rattle.basis.specs.declared.test.ByteTest.the-variants.{ServicesId, ServicesFlags}
+use Rattle.basis.specs.declared.test.Test.the-variants.{Byte}
 use Rattle.basis.specs.Mask.{under, x0F}
 use Rattle.values.specs.Layout.{sectionHeadSize, sectionLength, servicesId}
 use Rattle.service_entries.specs.Entries.{sectionChecks}
@@ -32,13 +34,13 @@ sameFlags l f =
 
 -- 7.4: the section's flags are those of byte 4
 abbrev pub flagsCheck : List ℕ → Flags → ℕ → Check
-flagsCheck p f i = checkAt 4 ServicesFlags (sameFlags (listOf (servicesPart p i)) f) ServiceFlagsMismatched
+flagsCheck p f i = checkAt 4 (Byte ServicesFlags) (sameFlags (listOf (servicesPart p i)) f) ServiceFlagsMismatched
 
 -- 7.1: n is at least i+2; 7.2: byte i is 73; 7.3: n is at least i+2+7s; S1 to S8; 7.4: the flags
 abbrev pub servicesChecks : List ℕ → Flags → ℕ → List Check
 servicesChecks p f i =
     sizeCheck ServicesHead p (i + sectionHeadSize)
-    ∷ checkAt i ServicesId (eqb (byte p i) servicesId) WrongMagic
+    ∷ checkAt i (Byte ServicesId) (eqb (byte p i) servicesId) WrongMagic
     ∷ sizeCheck ServicesWhole p (i + servicesSize p i)
     ∷ moved i (sectionChecks (servicesPart p i))
     ++ flagsCheck p f i ∷ []

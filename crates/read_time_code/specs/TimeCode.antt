@@ -6,7 +6,9 @@ use lib.Dec.{eqb}
 use Rattle.basis.specs.Answer.{WrongMagic}
 use Rattle.basis.specs.Bytes.{byte}
 use Rattle.basis.specs.Check.{Check, checkAt, moved, sizeCheck}
-use Rattle.basis.specs.declared.test.Test.the-variants.{TimeWhole, TimeId}
+use Rattle.basis.specs.declared.test.SizeTest.the-variants.{TimeWhole}
+use Rattle.basis.specs.declared.test.ByteTest.the-variants.{TimeId}
+use Rattle.basis.specs.declared.test.Test.the-variants.{Byte}
 use Rattle.values.specs.Layout.{timeCodeId, timeCodeSize}
 use Rattle.values_time.specs.Time.{timeChecks, timeOf, timePresent, timeAbsent}
 use Rattle.values_time.specs.declared.time.MaybeTimeCode.{MaybeTimeCode}
@@ -20,7 +22,7 @@ ofFour f p i = f (byte p (i + 1)) (byte p (i + 2)) (byte p (i + 3)) (byte p (i +
 abbrev pub timeCodeChecks : List ℕ → ℕ → List Check
 timeCodeChecks p i =
     sizeCheck TimeWhole p (i + timeCodeSize)
-    ∷ checkAt i TimeId (eqb (byte p i) timeCodeId) WrongMagic
+    ∷ checkAt i (Byte TimeId) (eqb (byte p i) timeCodeId) WrongMagic
     ∷ moved (i + 1) (ofFour timeChecks p i)
 
 -- what the four bytes say

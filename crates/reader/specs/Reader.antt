@@ -7,7 +7,8 @@ use lib.ListN.{length}
 use Rattle.basis.specs.Answer.{BufferTooShort}
 use Rattle.basis.specs.Bytes.{over}
 use Rattle.basis.specs.Check.{Check, checkAt, verdict, answer, placeOf, ifClear}
-use Rattle.basis.specs.declared.test.Test.the-variants.{CaptionRoom}
+use Rattle.basis.specs.declared.test.SizeTest.the-variants.{CaptionRoom}
+use Rattle.basis.specs.declared.test.Test.the-variants.{Size}
 use Rattle.values.specs.Layout.{captionRoom}
 use Rattle.read_captions.specs.Captions.{handedOut}
 use Rattle.read_header.specs.Header.{flagsIn}
@@ -18,7 +19,7 @@ use Rattle.reader.specs.declared.parser.CDPParserRead.{CDPParserRead}
 
 -- 1.1: room for the most captions, or 11 with that and how many bytes were lent, at place 0
 abbrev pub captionRoomCheck : ℕ → Check
-captionRoomCheck room = checkAt 0 CaptionRoom (leb captionRoom room) (BufferTooShort captionRoom room)
+captionRoomCheck room = checkAt 0 (Size CaptionRoom) (leb captionRoom room) (BufferTooShort captionRoom room)
 
 -- and then rules 2 to 9
 abbrev pub readChecks : List ℕ → ℕ → List Check

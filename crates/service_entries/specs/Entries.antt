@@ -7,7 +7,9 @@ use lib.ListN.{length, replicate}
 use Rattle.basis.specs.Answer.{LengthMismatch, WrongMagic, InvalidFixedBits, ServiceNumberMismatch}
 use Rattle.basis.specs.Bytes.{byte}
 use Rattle.basis.specs.Check.{Check, checkAt, moved, sizeCheck}
-use Rattle.basis.specs.declared.test.Test.the-variants.{SectionHead, SectionId, SectionFixed, SectionSize, HeaderFixed, HeaderForm, HeaderNumber}
+use Rattle.basis.specs.declared.test.SizeTest.the-variants.{SectionHead, SectionSize}
+use Rattle.basis.specs.declared.test.ByteTest.the-variants.{SectionId, SectionFixed, HeaderFixed, HeaderForm, HeaderNumber}
+use Rattle.basis.specs.declared.test.Test.the-variants.{Size, Byte}
 use Rattle.basis.specs.Mask.{under, allSet, x80, x40, x20, x3F, x1F, x0F}
 use Rattle.values.specs.Layout.{sectionEntrySize, sectionHeadSize, sectionLength, servicesId}
 use Rattle.service_entry.specs.Entry.{entryChecks, entryOf}
@@ -33,9 +35,9 @@ countOf d = under x0F (byte d 1)
 abbrev pub frameChecks : List ℕ → List Check
 frameChecks d =
     sizeCheck SectionHead d sectionHeadSize
-    ∷ checkAt 0 SectionId (eqb (byte d 0) servicesId) WrongMagic
-    ∷ checkAt 1 SectionFixed (allSet x80 (byte d 1)) InvalidFixedBits
-    ∷ checkAt (length d) SectionSize (eqb (length d) (sectionLength (countOf d))) (LengthMismatch (sectionLength (countOf d)) (length d))
+    ∷ checkAt 0 (Byte SectionId) (eqb (byte d 0) servicesId) WrongMagic
+    ∷ checkAt 1 (Byte SectionFixed) (allSet x80 (byte d 1)) InvalidFixedBits
+    ∷ checkAt (length d) (Size SectionSize) (eqb (length d) (sectionLength (countOf d))) (LengthMismatch (sectionLength (countOf d)) (length d))
     ∷ []
 
 -- S6: with 40 the low five bits of an entry's header byte, without it the low six
@@ -48,13 +50,13 @@ sixBehind d at = byte d (at + 1) ∷ byte d (at + 2) ∷ byte d (at + 3) ∷ byt
 
 -- S8: the number that the header byte at a place names is the one that the entry holds
 abbrev pub numberCheck : List ℕ → ℕ → Check
-numberCheck d at = checkAt 0 HeaderNumber (eqb (namedBy (byte d at)) (numberOf (entryOf (sixBehind d at) .service))) ServiceNumberMismatch
+numberCheck d at = checkAt 0 (Byte HeaderNumber) (eqb (namedBy (byte d at)) (numberOf (entryOf (sixBehind d at) .service))) ServiceNumberMismatch
 
 -- at a place, S5: bit 80; S6: with 40 also 20; S7: the entry's own rules; S8; places are counted from the header byte
 abbrev pub checksAt : List ℕ → ℕ → List Check
 checksAt d at =
-    checkAt 0 HeaderFixed (allSet x80 (byte d at)) InvalidFixedBits
-    ∷ checkAt 0 HeaderForm (not (allSet x40 (byte d at)) || allSet x20 (byte d at)) InvalidFixedBits
+    checkAt 0 (Byte HeaderFixed) (allSet x80 (byte d at)) InvalidFixedBits
+    ∷ checkAt 0 (Byte HeaderForm) (not (allSet x40 (byte d at)) || allSet x20 (byte d at)) InvalidFixedBits
     ∷ moved 1 (entryChecks (sixBehind d at))
     ++ numberCheck d at ∷ []
 

@@ -13,7 +13,8 @@ use Rattle.basis.proofs.Holds.{Within, fixed, none, place-most, placedIn}
 use Rattle.basis.specs.Answer.{InvalidFixedBits, InvalidServiceNumber, done, refused}
 use Rattle.basis.specs.Bytes.{byte}
 use Rattle.basis.specs.Check.{checkAt, verdict}
-use Rattle.basis.specs.declared.test.Test.the-variants.{KindField, KindNumber}
+use Rattle.basis.specs.declared.test.ByteTest.the-variants.{KindField, KindNumber}
+use Rattle.basis.specs.declared.test.Test.the-variants.{Byte}
 use Rattle.basis.specs.Mask.{allClear, allSet, x80, x3E, x3F}
 use Rattle.service_entry.specs.Entry.{kindCheck, entryChecks, serviceOf, entryOf, entryRead}
 use Rattle.service_entry.specs.Code.{refusedEntry}
@@ -70,7 +71,7 @@ module _ (e : List ℕ) where
 
 -- every refusal has one of the six bytes as its place
 kind-within : (digital kept kept′ : Bool)
-    → placedIn false 6 (cond digital (checkAt 3 KindNumber kept InvalidServiceNumber) (checkAt 3 KindField kept′ InvalidFixedBits) .rule) ≡ true
+    → placedIn false 6 (cond digital (checkAt 3 (Byte KindNumber) kept InvalidServiceNumber) (checkAt 3 (Byte KindField) kept′ InvalidFixedBits) .rule) ≡ true
 kind-within true kept kept′ = refl
 kind-within false kept kept′ = refl
 

@@ -6,7 +6,8 @@ use lib.Dec.{eqb}
 use Rattle.basis.specs.Answer.{InvalidFixedBits, InvalidServiceNumber}
 use Rattle.basis.specs.Bytes.{byte}
 use Rattle.basis.specs.Check.{Check, checkAt, verdict, answer, placeOf, ifClear}
-use Rattle.basis.specs.declared.test.Test.the-variants.{KindFixed, KindNumber, KindField, EntryFlags, EntryEnd}
+use Rattle.basis.specs.declared.test.ByteTest.the-variants.{KindFixed, KindNumber, KindField, EntryFlags, EntryEnd}
+use Rattle.basis.specs.declared.test.Test.the-variants.{Byte}
 use Rattle.basis.specs.Mask.{under, allSet, allClear, x80, x40, x3F, x3E, x01}
 use Rattle.service_entry.specs.Service.{digitalEntry, entry, filler}
 use Rattle.service_entry.specs.declared.entry.ServiceEntry.{ServiceEntry}
@@ -18,16 +19,16 @@ use Rattle.service_entry.specs.declared.service.FieldOrService.the-varia
 abbrev pub kindCheck : ℕ → Check
 kindCheck kind =
     cond (allSet x80 kind)
-    (checkAt 3 KindNumber (not (allClear x3F kind)) InvalidServiceNumber)
-    (checkAt 3 KindField (allSet x3E kind) InvalidFixedBits)
+    (checkAt 3 (Byte KindNumber) (not (allClear x3F kind)) InvalidServiceNumber)
+    (checkAt 3 (Byte KindField) (allSet x3E kind) InvalidFixedBits)
 
 -- E1: byte 3 has 40; E2: what it names; E3: byte 4 has 3F; E4: byte 5 is FF
 abbrev pub entryChecks : List ℕ → List Check
 entryChecks e =
-    checkAt 3 KindFixed (allSet x40 (byte e 3)) InvalidFixedBits
+    checkAt 3 (Byte KindFixed) (allSet x40 (byte e 3)) InvalidFixedBits
     ∷ kindCheck (byte e 3)
-    ∷ checkAt 4 EntryFlags (allSet x3F (byte e 4)) InvalidFixedBits
-    ∷ checkAt 5 EntryEnd (eqb (byte e 5) 0xFF) InvalidFixedBits
+    ∷ checkAt 4 (Byte EntryFlags) (allSet x3F (byte e 4)) InvalidFixedBits
+    ∷ checkAt 5 (Byte EntryEnd) (eqb (byte e 5) 0xFF) InvalidFixedBits
     ∷ []
 
 -- E2, E3: the number, easy reader in 80 and wide in 40 of byte 4; or the field, 1 where bit 01 is clear, with both dropped

@@ -15,7 +15,8 @@ use Rattle.basis.proofs.Verdicts.{andThen, moved-clear, movedVerdict, verdict-a
 use Rattle.basis.specs.Answer.{ServiceNumberMismatch, done, refused}
 use Rattle.basis.specs.Bytes.{byte}
 use Rattle.basis.specs.Check.{Check, Verdict, checkAt, moved, ruleAt, verdict, clear, broken}
-use Rattle.basis.specs.declared.test.Test.the-variants.{HeaderNumber}
+use Rattle.basis.specs.declared.test.ByteTest.the-variants.{HeaderNumber}
+use Rattle.basis.specs.declared.test.Test.the-variants.{Byte}
 use Rattle.basis.specs.Mask.{flag, under, allSet, x80, x40, x20, x10, x3F, x0F}
 use Rattle.values.specs.Layout.{servicesId, sectionLength, sectionEntrySize}
 use Rattle.service_entry.specs.Entry.{entryChecks, entryOf}
@@ -47,7 +48,7 @@ use Rattle.service_entry.proofs.EntryBack.{all-set, number-high, service-back, 
 
 -- clear, or 7 where the entries name field 2, at a place
 abbrev pub named : Bool → ℕ → Verdict
-named two place = cond two (broken (ruleAt place HeaderNumber ServiceNumberMismatch)) clear
+named two place = cond two (broken (ruleAt place (Byte HeaderNumber) ServiceNumberMismatch)) clear
 
 -- the header byte of a number: bit 80 is set, bit 40 is clear, the low six are the number
 module _ (n : ℕ) (h : n ≤ 63) where
@@ -77,14 +78,14 @@ header-named (Field true) h = refl
 header-named (Field false) h = refl
 header-named (Service d) h = eq-eqb _ _ (header-number (d .service) (number-high d h))
 
-not-two : (two : Bool) → cond (not two) clear (broken (ruleAt 0 HeaderNumber ServiceNumberMismatch)) ≡ named two 0
+not-two : (two : Bool) → cond (not two) clear (broken (ruleAt 0 (Byte HeaderNumber) ServiceNumberMismatch)) ≡ named two 0
 not-two true = refl
 not-two false = refl
 
 -- where the checks before it are clear, the number named decides
 last : (cs : List Check) (kept two : Bool) → verdict cs ≡ clear → kept ≡ not two
-    → verdict (cs ++ checkAt 0 HeaderNumber kept ServiceNumberMismatch ∷ []) ≡ named two 0
-last cs kept two h k = verdict-append cs (checkAt 0 HeaderNumber kept ServiceNumberMismatch ∷ []) ∙ rw (h, k, not-two two)
+    → verdict (cs ++ checkAt 0 (Byte HeaderNumber) kept ServiceNumberMismatch ∷ []) ≡ named two 0
+last cs kept two h k = verdict-append cs (checkAt 0 (Byte HeaderNumber) kept ServiceNumberMismatch ∷ []) ∙ rw (h, k, not-two two)
 
 place-verdict : (d : List ℕ) (at : ℕ) (two : Bool) → allSet x80 (byte d at) ≡ true → allSet x40 (byte d at) ≡ false
     → verdict (entryChecks (sixBehind d at)) ≡ clear

@@ -10,7 +10,7 @@ use lib.Dec.{eqb}
 use lib.ListN.{length}
 use Rattle.basis.specs.Bytes.{byte}
 use Rattle.basis.specs.Check.{sizeWhen, when, sizeCheck}
-use Rattle.basis.specs.declared.test.Test.the-variants.{ClosingHead}
+use Rattle.basis.specs.declared.test.SizeTest.the-variants.{ClosingHead}
 use Rattle.values.specs.Layout.{footerSize, timeCodeSize}
 use Rattle.read_captions.specs.Captions.{captionsChecks, captionsSize}
 use Rattle.read_header.specs.Header.{flagsIn, headerChecks}

@@ -12,8 +12,9 @@ use Rattle.basis.proofs.Holds.{Holds, So, also, both, fixed, none, unless-found
 use Rattle.basis.specs.Answer.{InvalidFixedBits, InvalidServiceNumber, WouldOverflow, refused}
 use Rattle.basis.specs.Bytes.{byte}
 use Rattle.basis.specs.Check.{Check, CheckOf, RuleAt, WriteCheck, check, checkAt, moved, roomCheck, sizeCheck, when}
-use Rattle.basis.specs.declared.test.Test.{Test}
-use Rattle.basis.specs.declared.test.Test.the-variants.{KindField, KindNumber}
+use Rattle.basis.specs.declared.test.SizeTest.{SizeTest}
+use Rattle.basis.specs.declared.test.ByteTest.the-variants.{KindField, KindNumber}
+use Rattle.basis.specs.declared.test.Test.the-variants.{Byte}
 use Rattle.basis.specs.Mask.{allClear, allSet, x3E, x3F, x80}
 use Rattle.values.specs.Layout.{footerId, sectionLength, captionRoom, footerSize, sectionEntrySize, timeCodeSize}
 use Rattle.values_time.specs.Time.{timeChecks, timeWriteChecks}
@@ -81,7 +82,7 @@ module _ (beside : ℕ → ℕ → Bool) where
 
   -- E2: both refusals of the kind byte are fixed ones
   kind : (digital kept kept′ : Bool) {cs : List Check} → Proper beside cs
-      → Proper beside (cond digital (checkAt 3 KindNumber kept InvalidServiceNumber) (checkAt 3 KindField kept′ InvalidFixedBits) ∷ cs)
+      → Proper beside (cond digital (checkAt 3 (Byte KindNumber) kept InvalidServiceNumber) (checkAt 3 (Byte KindField) kept′ InvalidFixedBits) ∷ cs)
   kind true kept kept′ later = fixed refl later
   kind false kept kept′ later = fixed refl later
 
@@ -138,7 +139,7 @@ module _ (beside : ℕ → ℕ → Bool) where
 
 -- rules that answer 1 where bytes are missing: the parts of a packet behind its header
 module _ (beside : ℕ → ℕ → Bool) (shorter : Shorter beside) where
-  size : {test : Test} (p : List ℕ) (least : ℕ) {cs : List Check} → (least ≤ length p → Proper beside cs)
+  size : {test : SizeTest} (p : List ℕ) (least : ℕ) {cs : List Check} → (least ≤ length p → Proper beside cs)
       → Proper beside (sizeCheck test p least ∷ cs)
   size p least later =
       also (λ k. shorter least (length p) (leb-false least (length p) k)) (λ k. later (leb-true least (length p) k))

@@ -5,7 +5,8 @@ use Prim.Native.Nat.{ℕ, _+_, _*_, _/_, _%_}
 use lib.Dec.{leb}
 use Rattle.basis.specs.Answer.{InvalidFixedBits, NotWritable}
 use Rattle.basis.specs.Check.{Check, WriteCheck, check, checkAt, verdict, answer, placeOf, ifClear}
-use Rattle.basis.specs.declared.test.Test.the-variants.{Hours, Minutes, Frames}
+use Rattle.basis.specs.declared.test.ByteTest.the-variants.{Hours, Minutes, Frames}
+use Rattle.basis.specs.declared.test.Test.the-variants.{Byte}
 use Rattle.basis.specs.Mask.{under, bitRun, allSet, allClear, flag, x80, x40, xC0, x0F}
 use Rattle.values_time.specs.declared.time.MaybeTimeCode.{MaybeTimeCode}
 use Rattle.values_time.specs.declared.time.TimeCode.{TimeCode}
@@ -38,9 +39,9 @@ digits tensBits b = under (bitRun tensBits 4) b * 10 + units b
 -- 5.3: hours have both bits of C0; 5.4: minutes have 80; 5.5: frames do not have 40; places are counted from the hours
 abbrev pub timeChecks : ℕ → ℕ → ℕ → ℕ → List Check
 timeChecks hours minutes seconds frames =
-    checkAt 0 Hours (allSet xC0 hours) InvalidFixedBits
-    ∷ checkAt 1 Minutes (allSet x80 minutes) InvalidFixedBits
-    ∷ checkAt 3 Frames (allClear x40 frames) InvalidFixedBits
+    checkAt 0 (Byte Hours) (allSet xC0 hours) InvalidFixedBits
+    ∷ checkAt 1 (Byte Minutes) (allSet x80 minutes) InvalidFixedBits
+    ∷ checkAt 3 (Byte Frames) (allClear x40 frames) InvalidFixedBits
     ∷ []
 
 -- two tens bits in hours and frames, three in minutes and seconds; 80 is the field in seconds, drop frame in frames

@@ -1,0 +1,50 @@
+// Where the parts of a packet stand. Bytes past its end count as 0.
+ghost use mathlib.Core.Path.{_≡_};
+ghost use Prim.Native.Nat.{_≤_};
+ghost use Rattle.basis.specs.Bytes.{byte};
+ghost use Rattle.read_packet.specs.Packet.{captionsAt, closingAt, servicesAt};
+use values::Flags;
+use values::Packet;
+
+pub(crate) fn byte_at(packet: &[u8], at: usize) -> u8
+    ensures { λ r. ⌜ r ≡ byte (now (packet .entry)) at ⌝ }
+{
+    if at < packet.len() { packet[at] } else { 0 }
+}
+
+pub(crate) fn captions_at(packet: &[u8]) -> usize
+    ensures { λ r. ⌜ r ≡ captionsAt (now (packet .entry)) ⌝ }
+    ensures { λ r. ⌜ r ≤ 12 ⌝ }
+{
+    let flags = Flags::from_byte(byte_at(packet, 4));
+    if flags.time_code {
+        return Packet::HEADER_LEN + Packet::TIME_CODE_LEN;
+    }
+    Packet::HEADER_LEN
+}
+
+pub(crate) fn services_at(packet: &[u8]) -> usize
+    ensures { λ r. ⌜ r ≡ servicesAt (now (packet .entry)) ⌝ }
+    ensures { λ r. ⌜ r ≤ 107 ⌝ }
+{
+    let at = captions_at(packet);
+    let flags = Flags::from_byte(byte_at(packet, 4));
+    if flags.cc_data {
+        let count = byte_at(packet, at + 1) % 32;
+        return at + (Packet::SECTION_HEAD_LEN + Packet::TRIPLET_LEN * count as usize);
+    }
+    at
+}
+
+pub(crate) fn closing_at(packet: &[u8]) -> usize
+    ensures { λ r. ⌜ r ≡ closingAt (now (packet .entry)) ⌝ }
+    ensures { λ r. ⌜ r ≤ 214 ⌝ }
+{
+    let at = services_at(packet);
+    let flags = Flags::from_byte(byte_at(packet, 4));
+    if flags.svc_info {
+        let count = byte_at(packet, at + 1) % 16;
+        return at + (Packet::SECTION_HEAD_LEN + Packet::SECTION_ENTRY_LEN * count as usize);
+    }
+    at
+}

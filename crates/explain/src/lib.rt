@@ -1,0 +1,17 @@
+// Why a packet is refused: the test that it fails first, and what that test takes. The reader answers; what it answers
+// and where it points leave one test, which is found here.
+mod find;
+mod layout;
+mod rule;
+mod taken;
+mod why;
+
+pub use rule::byte_rule;
+pub use rule::pair_rule;
+pub use rule::size_rule;
+pub use taken::takes;
+pub use why::FailedByte;
+pub use why::FailedPair;
+pub use why::FailedSize;
+pub use why::Reason;
+pub use why::Why;
