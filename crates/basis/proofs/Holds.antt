@@ -73,9 +73,12 @@ module _ {P : Type 0} {good : RuleAt P → Type 0} where
   pub both : (xs ys : List (CheckOf P)) → Holds good xs → Holds good ys → Holds good (xs ++ ys)
   both xs ys a b = behind xs ys a (λ _. b)
 
+  pub if-there : (present : Bool) {cs : List (CheckOf P)} → (present ≡ true → Holds good cs) → Holds good (when present cs)
+  if-there true a = a refl
+  if-there false a = none
+
   pub where-there : (present : Bool) {cs : List (CheckOf P)} → Holds good cs → Holds good (when present cs)
-  where-there true a = a
-  where-there false a = none
+  where-there present a = if-there present (λ _. a)
 
   pub unless-found : (found : Bool) {cs : List (CheckOf P)} → Holds good cs → Holds good (cond found [] cs)
   unless-found true a = none

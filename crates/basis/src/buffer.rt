@@ -1,4 +1,4 @@
-// Bytes put into a lent buffer.
+// A byte by its place, and bytes put into a lent buffer.
 ghost use mathlib.Core.List.{_∷_, []};
 ghost use mathlib.Core.Path.{_≡_};
 ghost use Prim.Native.Nat.{_+_, _-_, _≤_};
@@ -7,6 +7,13 @@ ghost use Rattle.basis.specs.Bytes as Bytes;
 ghost use Rattle.basis.specs.Code as Code;
 ghost use Rattle.basis.specs.Check.{answer, roomCheck, verdict};
 use crate::answer::Answer;
+
+// The byte at a place, 0 past the end.
+pub fn byte_at(bytes: &[u8], at: usize) -> u8
+    ensures { λ r. ⌜ r ≡ Bytes.byte (now (bytes .entry)) at ⌝ }
+{
+    if at < bytes.len() { bytes[at] } else { 0 }
+}
 
 // Puts the bytes from a place on, or answers 11 with their number and the room from there on, and writes nothing.
 pub fn put(out: &mut [u8], at: usize, bytes: &[u8]) -> Answer

@@ -7,6 +7,7 @@ mod tested;
 
 pub use answer::Answer;
 pub use bits::flag;
+pub use buffer::byte_at;
 pub use buffer::put;
 pub use test::ByteTest;
 pub use test::PairTest;

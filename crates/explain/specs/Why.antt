@@ -3,20 +3,25 @@ use mathlib.Core.List.{List}
 use Prim.Native.Nat.{ℕ}
 use Rattle.basis.specs.Answer.{refused}
 use Rattle.basis.specs.Check.{Verdict, answer, broken, clear, placeOf, verdict}
+use Rattle.basis.specs.declared.test.PairTest.{PairTest}
 use Rattle.basis.specs.declared.test.Test.{Test}
 use Rattle.basis.specs.declared.test.Test.the-variants.{Byte, Pair, Size}
 use Rattle.read_packet.specs.Packet.{captionsLength, packetChecks}
 use Rattle.explain.specs.Tests.{byteRow, pairRow}
+use Rattle.explain.specs.declared.why.FailedPair.{FailedPair}
 use Rattle.explain.specs.declared.why.Reason.{Reason}
 use Rattle.explain.specs.declared.why.Reason.the-variants.{Accepted, OfByte, OfPair, OfSize}
 use Rattle.explain.specs.declared.why.Why.{Why}
+
+-- a test of two bytes, with the two
+abbrev pub failedPair : List ℕ → PairTest → FailedPair
+failedPair p test = record { test = test; first = pairRow test .first p; second = pairRow test .second p }
 
 -- a test at a place: with the size that it asks for, as the answer has it; with the two bytes; or with what the byte is
 -- compared with
 abbrev pub reasonFor : List ℕ → Test → ℕ → ℕ → Reason
 reasonFor p (Size test) place size = OfSize (record { test = test; bytes = size })
-reasonFor p (Pair test) place size =
-    OfPair (record { test = test; first = pairRow test .first p; second = pairRow test .second p })
+reasonFor p (Pair test) place size = OfPair (failedPair p test)
 reasonFor p (Byte test) place size = OfByte (record { test = test; said = byteRow test .says p place })
 
 -- nothing is named of a packet that is accepted

@@ -9,7 +9,6 @@ ghost use Rattle.basis.specs.declared.test.PairTest.the-variants.{Magic};
 ghost use Rattle.basis.specs.declared.test.Test.the-variants.{Byte, Pair};
 ghost use Rattle.values.specs.Layout.{sectionHeadSize};
 ghost use Rattle.explain.specs.Code.{bitsTest, closingTest, entryTest, idTest, sizeTest, testFrom, timeTest};
-use crate::layout::byte_at;
 use crate::layout::captions_at;
 use crate::layout::closing_at;
 use crate::layout::services_at;
@@ -17,6 +16,7 @@ use basis::ByteTest;
 use basis::PairTest;
 use basis::SizeTest;
 use basis::Test;
+use basis::byte_at;
 use values::Packet;
 
 pub(crate) fn test_of(packet: &[u8], number: u8, place: usize) -> Test

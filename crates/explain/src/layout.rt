@@ -1,20 +1,12 @@
 // Where the parts of a packet stand. Bytes past its end count as 0.
 ghost use mathlib.Core.Path.{_≡_};
-ghost use Prim.Native.Nat.{_≤_};
-ghost use Rattle.basis.specs.Bytes.{byte};
 ghost use Rattle.read_packet.specs.Packet.{captionsAt, closingAt, servicesAt};
+use basis::byte_at;
 use values::Flags;
 use values::Packet;
 
-pub(crate) fn byte_at(packet: &[u8], at: usize) -> u8
-    ensures { λ r. ⌜ r ≡ byte (now (packet .entry)) at ⌝ }
-{
-    if at < packet.len() { packet[at] } else { 0 }
-}
-
 pub(crate) fn captions_at(packet: &[u8]) -> usize
     ensures { λ r. ⌜ r ≡ captionsAt (now (packet .entry)) ⌝ }
-    ensures { λ r. ⌜ r ≤ 12 ⌝ }
 {
     let flags = Flags::from_byte(byte_at(packet, 4));
     if flags.time_code {
@@ -25,7 +17,6 @@ pub(crate) fn captions_at(packet: &[u8]) -> usize
 
 pub(crate) fn services_at(packet: &[u8]) -> usize
     ensures { λ r. ⌜ r ≡ servicesAt (now (packet .entry)) ⌝ }
-    ensures { λ r. ⌜ r ≤ 107 ⌝ }
 {
     let at = captions_at(packet);
     let flags = Flags::from_byte(byte_at(packet, 4));
@@ -38,7 +29,6 @@ pub(crate) fn services_at(packet: &[u8]) -> usize
 
 pub(crate) fn closing_at(packet: &[u8]) -> usize
     ensures { λ r. ⌜ r ≡ closingAt (now (packet .entry)) ⌝ }
-    ensures { λ r. ⌜ r ≤ 214 ⌝ }
 {
     let at = services_at(packet);
     let flags = Flags::from_byte(byte_at(packet, 4));

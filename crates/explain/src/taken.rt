@@ -47,7 +47,11 @@ fn header(value: u8) -> bool
     if value / 128 % 2 != 1 {
         return false;
     }
-    if value / 64 % 2 == 1 { value / 32 % 2 == 1 } else { true }
+    if value / 64 % 2 == 1 {
+        value / 32 % 2 == 1
+    } else {
+        true
+    }
 }
 
 // One that names this number, in either form.

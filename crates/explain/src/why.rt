@@ -3,16 +3,16 @@ ghost use mathlib.Core.Path.{_≡_};
 ghost use Prim.Native.Nat.{_≤_};
 ghost use lib.ListN.{length};
 ghost use Rattle.read_closing.specs.Closing.{checksumOf};
-ghost use Rattle.explain.specs.Tests.{byteRow, flagsWanted, numberWanted, pairRow};
-ghost use Rattle.explain.specs.Why.{reasonFor, whyOf};
+ghost use Rattle.explain.specs.Tests.{byteRow, flagsWanted, numberWanted};
+ghost use Rattle.explain.specs.Why.{failedPair, reasonFor, whyOf};
 use crate::find::test_of;
-use crate::layout::byte_at;
 use crate::layout::services_at;
 use basis::Answer;
 use basis::ByteTest;
 use basis::PairTest;
 use basis::SizeTest;
 use basis::Test;
+use basis::byte_at;
 use read_packet::Checked;
 use values::checksum_byte;
 
@@ -93,9 +93,7 @@ fn reason_for(packet: &[u8], test: Test, place: usize, size: usize) -> Reason
 
 // 96 69, or the header's sequence.
 fn failed_pair(packet: &[u8], test: PairTest) -> FailedPair
-    ensures { λ r. ⌜ r .test ≡ test ⌝ }
-    ensures { λ r. ⌜ r .first ≡ pairRow test .first (now (packet .entry)) ⌝ }
-    ensures { λ r. ⌜ r .second ≡ pairRow test .second (now (packet .entry)) ⌝ }
+    ensures { λ r. ⌜ r ≡ failedPair (now (packet .entry)) test ⌝ }
 {
     match test {
         PairTest::Magic => FailedPair {
@@ -117,10 +115,27 @@ fn said(packet: &[u8], test: ByteTest, place: usize) -> u8
     ensures { λ r. ⌜ r ≡ byteRow test .says (now (packet .entry)) place ⌝ }
 {
     match test {
+        ByteTest::Rate => 0,
+        ByteTest::TimeId => 0,
+        ByteTest::Hours => 0,
+        ByteTest::Minutes => 0,
+        ByteTest::Frames => 0,
+        ByteTest::CaptionsId => 0,
+        ByteTest::CaptionsFixed => 0,
+        ByteTest::ServicesId => 0,
+        ByteTest::SectionId => 0,
+        ByteTest::SectionFixed => 0,
+        ByteTest::HeaderFixed => 0,
+        ByteTest::HeaderForm => 0,
+        ByteTest::KindFixed => 0,
+        ByteTest::KindNumber => 0,
+        ByteTest::KindField => 0,
+        ByteTest::EntryFlags => 0,
+        ByteTest::EntryEnd => 0,
         ByteTest::HeaderNumber => number_wanted(packet, place),
         ByteTest::ServicesFlags => flags_wanted(packet),
+        ByteTest::FutureId => 0,
         ByteTest::Checksum => checksum_wanted(packet),
-        _ => 0,
     }
 }
 

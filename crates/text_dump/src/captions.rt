@@ -1,12 +1,11 @@
 // The captions: their count, then a line for each.
-ghost use mathlib.Core.Path.{_≡_};
 ghost use Prim.Native.Nat.{_*_, _≤_};
 ghost use lib.ListN.{length};
-ghost use Rattle.basis.specs.Bytes.{byte};
 ghost use Rattle.basis.specs.Made.{made};
 ghost use Rattle.text.specs.Lines.{lineText, linesText};
 ghost use Rattle.text.specs.Room.{PutInRoom};
 ghost use Rattle.text_dump.specs.Lines as Lines;
+use basis::byte_at;
 use text::hex;
 use text::line;
 use text::number;
@@ -46,11 +45,4 @@ fn triplet(out: &mut [u8], at: usize, handed_out: &[u8], k: usize) -> usize
     let second = hex(out, first, b" ", byte_at(handed_out, place + 1));
     let third = hex(out, second, b" ", byte_at(handed_out, place + 2));
     line(out, third, b"")
-}
-
-// 0 past the end.
-fn byte_at(bytes: &[u8], at: usize) -> u8
-    ensures { λ r. ⌜ r ≡ byte (now (bytes .entry)) at ⌝ }
-{
-    if at < bytes.len() { bytes[at] } else { 0 }
 }

@@ -1,57 +1,67 @@
+-- `explain::find::bits_test`: by the part that the place is in.
+-- Assumes nothing.
+use native.Mathlib.Omega.{arith}
+use borrow.Author.Tests.{le-ltb, lt-ltb}
+use Rattle.read_packet.proofs.PacketReads.{services-near}
+use Rattle.explain.specs.Code.{bitsTest}
 use borrow.Author.Needs.{needs}
 use Rattle.explain.proofs.find.bits_test.Statement.{statement}
 use Rattle.explain.proofs.find.bits_test.Tie as tie
-use Rattle.explain.proofs.find.bits_test.Reads as reads
-use Rattle.explain.proofs.find.bits_test.Lts as lts
-use Rattle.explain.proofs.find.entry_test.Reads as entry-test-reads
-use Rattle.explain.proofs.find.time_test.Reads as time-test-reads
-use Rattle.explain.proofs.layout.byte_at.Reads as byte-at-reads
-use Rattle.explain.proofs.layout.captions_at.Reads as captions-at-reads
-use Rattle.explain.proofs.layout.services_at.Reads as services-at-reads
 
--- src/find.rt:126:16
 captions-at-requires : tie.Need-captions-at-requires
 captions-at-requires c κs = search needs
 
--- src/find.rt:127:9
 time-test-requires : tie.Need-time-test-requires
 time-test-requires c κs = search needs
 
--- src/find.rt:127:9
 returns : tie.Need-returns
-returns c = ?
+unfolding bitsTest
+returns c = rw (c .time-test .ensures) (simp (lt-ltb _ _ (rw (c .before .before .captions-at .ensures) at (c .before .if1 .taken))))
 
--- src/find.rt:129:9
 services-at-requires : tie.Need-services-at-requires
 services-at-requires c κs = search needs
 
--- src/find.rt:131:9
 returns-2 : tie.Need-returns-2
-returns-2 c = ?
+unfolding bitsTest
+returns-2 c =
+    simp (
+      le-ltb _ _ (rw (c .before .before .before .captions-at .ensures) at (c .before .before .if1 .left)),
+      lt-ltb _ _ (rw (c .before .services-at .ensures) at (c .if2 .taken)),
+    )
 
--- src/find.rt:133:16
 add-if3 : tie.Need-add-if3
-add-if3 c = search needs
+add-if3 c = omega (arith, c .before .services-at .ensures, services-near (c .before .before .before .before .before .args .packet .now))
 
--- src/find.rt:134:9
 returns-3 : tie.Need-returns-3
-returns-3 c = ?
+unfolding bitsTest
+returns-3 c =
+    let placed = c .before .before .services-at .ensures in
+    simp (
+      le-ltb _ _ (rw (c .before .before .before .before .captions-at .ensures) at (c .before .before .before .if1 .left)),
+      le-ltb _ _ (rw placed at (c .before .if2 .left)),
+      lt-ltb _ _ (rw placed at (c .if3 .taken)),
+    )
 
--- src/find.rt:137:10
 sub-entry-test : tie.Need-sub-entry-test
 sub-entry-test c = search needs
 
--- src/find.rt:138:9
 byte-at-requires : tie.Need-byte-at-requires
 byte-at-requires c κs = search needs
 
--- src/find.rt:136:5
 entry-test-requires : tie.Need-entry-test-requires
 entry-test-requires c κs = search needs
 
--- src/find.rt:123:1
 returns-4 : tie.Need-returns-4
-returns-4 c = ?
+unfolding bitsTest
+returns-4 c =
+    let tested = c .before .before in
+    let placed = tested .before .before .services-at .ensures in
+    rw (c .entry-test .ensures, c .before .byte-at .ensures, placed)
+    (simp (
+      le-ltb _ _ (rw (tested .before .before .before .before .captions-at .ensures) at (tested .before .before .before .if1 .left)),
+      le-ltb _ _ (rw placed at (tested .before .if2 .left)),
+      le-ltb _ _ (rw placed at (tested .if3 .left)),
+    ))
 
 pub bits-test-spec : {M : Type 1} → statement M
 bits-test-spec =

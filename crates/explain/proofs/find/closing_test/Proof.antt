@@ -1,73 +1,68 @@
+-- `explain::find::closing_test`: over the future sections, to the one that the packet ends in, or to the footer.
+-- Assumes nothing.
+use Prim.Native.Nat.{_+_, _-_}
+use native.Mathlib.Omega.{arith}
+use borrow.Author.Needs.{needs}
+use Rattle.explain.proofs.ClosingFound.{Come, comes-on, ends-behind, ends-in-footer, ends-in-future, sets-out}
 use Rattle.explain.proofs.find.closing_test.Statement.{statement}
 use Rattle.explain.proofs.find.closing_test.Tie as tie
-use Rattle.explain.proofs.find.closing_test.Reads as reads
-use Rattle.explain.proofs.find.closing_test.Lts as lts
 
 abbrev Inv-loop : tie.InvT-loop
-Inv-loop packet from size i₀ i = ?
+Inv-loop packet from size i₀ i = Come packet from i
 
 abbrev μ-loop : tie.MeasureT-loop
-μ-loop packet from size i₀ i = ?
+μ-loop packet from size i₀ i = size - i
 
--- src/find.rt:82:5
 loop-holds : tie.Need-loop-holds Inv-loop μ-loop
-loop-holds c = ?
+loop-holds c = sets-out _ _ (omega arith)
 
--- src/find.rt:82:11
 shared-slice-read-if1 : tie.Need-shared-slice-read-if1 Inv-loop μ-loop
-shared-slice-read-if1 c = ?
+shared-slice-read-if1 c = search needs
 
--- src/find.rt:83:29
 add-length : tie.Need-add-length Inv-loop μ-loop
-add-length c = ?
+add-length c = search needs
 
--- src/find.rt:83:22
 shared-slice-read-length : tie.Need-shared-slice-read-length Inv-loop μ-loop
-shared-slice-read-length c = ?
+shared-slice-read-length c = search needs
 
--- src/find.rt:83:22
 cast-length : tie.Need-cast-length Inv-loop μ-loop
-cast-length c = ?
+cast-length c = omega (arith, c .shared-slice-known2 .given (c .before .before .before .loop .i + 1))
 
--- src/find.rt:84:19
 add-if2 : tie.Need-add-if2 Inv-loop μ-loop
-add-if2 c = ?
+add-if2 c = search needs
 
--- src/find.rt:84:19
 add-if2-2 : tie.Need-add-if2-2 Inv-loop μ-loop
-add-if2-2 c = ?
+add-if2-2 c = omega (arith, c .shared-slice-known2 .given (c .before .before .before .loop .i + 1))
 
--- src/find.rt:85:13
 returns : tie.Need-returns Inv-loop μ-loop
-returns c = ?
+returns c =
+    let turn = c .before .before in
+    ends-in-future _ _ _ (turn .before .before .loop .inv) (turn .if1 .taken) (omega arith)
 
--- src/find.rt:87:20
 add-next : tie.Need-add-next Inv-loop μ-loop
-add-next c = ?
+add-next c = search needs
 
--- src/find.rt:87:20
 add-next-2 : tie.Need-add-next-2 Inv-loop μ-loop
-add-next-2 c = ?
+add-next-2 c = search needs
 
--- src/find.rt:88:19
 add-if3 : tie.Need-add-if3 Inv-loop μ-loop
-add-if3 c = ?
+add-if3 c = search needs
 
--- src/find.rt:89:13
 returns-2 : tie.Need-returns-2 Inv-loop μ-loop
-returns-2 c = ?
+returns-2 c =
+    let turn = c .before .before .before in
+    ends-behind _ _ _ (turn .before .before .loop .inv) (turn .if1 .taken) (omega arith) (omega arith)
 
--- src/find.rt:82:5
 loop-less : tie.Need-loop-less Inv-loop μ-loop
-loop-less c = ?
+loop-less c = search needs
 
--- src/find.rt:82:5
 loop-again : tie.Need-loop-again Inv-loop μ-loop
-loop-again c = ?
+loop-again c =
+    let turn = c .before .before .before in
+    comes-on _ _ _ (turn .before .before .loop .inv) (turn .if1 .taken) (omega arith) (omega arith)
 
--- src/find.rt:76:1
 returns-3 : tie.Need-returns-3 Inv-loop μ-loop
-returns-3 c = ?
+returns-3 c = ends-in-footer _ _ _ (c .before .before .loop .inv) (omega arith)
 
 pub closing-test-spec : {M : Type 1} → statement M
 closing-test-spec =

@@ -1,31 +1,33 @@
+-- `explain::find::entry_test`: by the place in the seven bytes, and the bits of the byte.
+-- Assumes nothing.
+use borrow.Author.Tests.{eq-eqb, ne-eqb}
+use Rattle.explain.specs.Code.{entryTest}
 use Rattle.explain.proofs.find.entry_test.Statement.{statement}
 use Rattle.explain.proofs.find.entry_test.Tie as tie
-use Rattle.explain.proofs.find.entry_test.Reads as reads
-use Rattle.explain.proofs.find.entry_test.Lts as lts
 
--- src/find.rt:159:9
 returns : tie.Need-returns
-returns c = ?
+unfolding entryTest
+returns c = simp (eq-eqb _ _ (c .before .if1 .taken), eq-eqb _ _ (c .if2 .taken))
 
--- src/find.rt:159:9
 returns-2 : tie.Need-returns-2
-returns-2 c = ?
+unfolding entryTest
+returns-2 c = simp (eq-eqb _ _ (c .before .if1 .taken), ne-eqb _ _ (c .if2 .left))
 
--- src/find.rt:166:9
 returns-3 : tie.Need-returns-3
-returns-3 c = ?
+unfolding entryTest
+returns-3 c = simp (ne-eqb _ _ (c .before .before .if1 .left), eq-eqb _ _ (c .before .if3 .taken), eq-eqb _ _ (c .if4 .taken))
 
--- src/find.rt:166:9
 returns-4 : tie.Need-returns-4
-returns-4 c = ?
+unfolding entryTest
+returns-4 c = simp (ne-eqb _ _ (c .before .before .if1 .left), eq-eqb _ _ (c .before .if3 .taken), ne-eqb _ _ (c .if4 .left))
 
--- src/find.rt:173:9
 returns-5 : tie.Need-returns-5
-returns-5 c = ?
+unfolding entryTest
+returns-5 c = simp (ne-eqb _ _ (c .before .before .if1 .left), ne-eqb _ _ (c .before .if3 .left), eq-eqb _ _ (c .if5 .taken))
 
--- src/find.rt:155:1
 returns-6 : tie.Need-returns-6
-returns-6 c = ?
+unfolding entryTest
+returns-6 c = simp (ne-eqb _ _ (c .before .before .if1 .left), ne-eqb _ _ (c .before .if3 .left), ne-eqb _ _ (c .if5 .left))
 
 pub entry-test-spec : {M : Type 1} → statement M
 entry-test-spec = tie.close (tie.spec returns returns-2 returns-3 returns-4 returns-5 returns-6)

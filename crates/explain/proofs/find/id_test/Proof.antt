@@ -1,39 +1,49 @@
+-- `explain::find::id_test`: by the part that the place is in.
+-- Assumes nothing.
+use borrow.Author.Tests.{le-ltb, lt-ltb}
+use Rattle.explain.specs.Code.{idTest}
 use borrow.Author.Needs.{needs}
 use Rattle.explain.proofs.find.id_test.Statement.{statement}
 use Rattle.explain.proofs.find.id_test.Tie as tie
-use Rattle.explain.proofs.find.id_test.Reads as reads
-use Rattle.explain.proofs.find.id_test.Lts as lts
-use Rattle.explain.proofs.layout.captions_at.Reads as captions-at-reads
-use Rattle.explain.proofs.layout.closing_at.Reads as closing-at-reads
-use Rattle.explain.proofs.layout.services_at.Reads as services-at-reads
 
--- src/find.rt:110:16
 captions-at-requires : tie.Need-captions-at-requires
 captions-at-requires c κs = search needs
 
--- src/find.rt:111:9
 returns : tie.Need-returns
-returns c = ?
+unfolding idTest
+returns c = simp (lt-ltb _ _ (rw (c .before .captions-at .ensures) at (c .if1 .taken)))
 
--- src/find.rt:113:16
 services-at-requires : tie.Need-services-at-requires
 services-at-requires c κs = search needs
 
--- src/find.rt:114:9
 returns-2 : tie.Need-returns-2
-returns-2 c = ?
+unfolding idTest
+returns-2 c =
+    simp (
+      le-ltb _ _ (rw (c .before .before .before .captions-at .ensures) at (c .before .before .if1 .left)),
+      lt-ltb _ _ (rw (c .before .services-at .ensures) at (c .if2 .taken)),
+    )
 
--- src/find.rt:116:16
 closing-at-requires : tie.Need-closing-at-requires
 closing-at-requires c κs = search needs
 
--- src/find.rt:117:9
 returns-3 : tie.Need-returns-3
-returns-3 c = ?
+unfolding idTest
+returns-3 c =
+    simp (
+      le-ltb _ _ (rw (c .before .before .before .before .before .captions-at .ensures) at (c .before .before .before .before .if1 .left)),
+      le-ltb _ _ (rw (c .before .before .before .services-at .ensures) at (c .before .before .if2 .left)),
+      lt-ltb _ _ (rw (c .before .closing-at .ensures) at (c .if3 .taken)),
+    )
 
--- src/find.rt:107:1
 returns-4 : tie.Need-returns-4
-returns-4 c = ?
+unfolding idTest
+returns-4 c =
+    simp (
+      le-ltb _ _ (rw (c .before .before .before .before .before .captions-at .ensures) at (c .before .before .before .before .if1 .left)),
+      le-ltb _ _ (rw (c .before .before .before .services-at .ensures) at (c .before .before .if2 .left)),
+      le-ltb _ _ (rw (c .before .closing-at .ensures) at (c .if3 .left)),
+    )
 
 pub id-test-spec : {M : Type 1} → statement M
 id-test-spec =

@@ -1,84 +1,111 @@
+-- `explain::find::size_test`: the part that the packet ends in.
+-- Assumes nothing.
+use mathlib.Core.Path.{_∙_}
+use native.Mathlib.Omega.{arith}
+use Rattle.explain.proofs.SizesFound.{
+  at-captions,
+  at-closing,
+  at-services,
+  in-captions,
+  in-closing,
+  in-services,
+  in-time,
+  other-size,
+  too-few,
+}
 use borrow.Author.Needs.{needs}
 use Rattle.explain.proofs.find.size_test.Statement.{statement}
 use Rattle.explain.proofs.find.size_test.Tie as tie
-use Rattle.explain.proofs.find.size_test.Reads as reads
-use Rattle.explain.proofs.find.size_test.Lts as lts
-use Rattle.explain.proofs.find.closing_test.Reads as closing-test-reads
-use Rattle.explain.proofs.layout.captions_at.Reads as captions-at-reads
-use Rattle.explain.proofs.layout.closing_at.Reads as closing-at-reads
-use Rattle.explain.proofs.layout.services_at.Reads as services-at-reads
 
--- src/find.rt:44:9
 returns : tie.Need-returns
-returns c = ?
+returns c = too-few _ (omega arith)
 
--- src/find.rt:46:8
 shared-slice-read-if2 : tie.Need-shared-slice-read-if2
 shared-slice-read-if2 c = search needs
 
--- src/find.rt:46:8
 cast-if2 : tie.Need-cast-if2
-cast-if2 c = ?
+cast-if2 c = omega (arith, c .shared-slice-known2 .given 2)
 
--- src/find.rt:47:9
 returns-2 : tie.Need-returns-2
-returns-2 c = ?
+returns-2 c = other-size _ (omega arith) (c .if2 .taken)
 
--- src/find.rt:49:9
 captions-at-requires : tie.Need-captions-at-requires
 captions-at-requires c κs = search needs
 
--- src/find.rt:51:9
 returns-3 : tie.Need-returns-3
-returns-3 c = ?
+returns-3 c =
+    let captions = c .before .captions-at .ensures in
+    in-time _ (omega arith) (omega arith) (omega (arith, captions))
 
--- src/find.rt:53:9
 services-at-requires : tie.Need-services-at-requires
 services-at-requires c κs = search needs
 
--- src/find.rt:55:26
 add-if5 : tie.Need-add-if5
 add-if5 c = search needs
 
--- src/find.rt:55:9
 returns-4 : tie.Need-returns-4
-returns-4 c = ?
+returns-4 c =
+    let services = c .before .before in
+    let captions = services .before .before in
+    at-captions _ (omega arith) (omega arith) (omega (arith, captions .captions-at .ensures))
+    (omega (arith, services .services-at .ensures)) (omega (arith, captions .captions-at .ensures))
 
--- src/find.rt:55:9
 returns-5 : tie.Need-returns-5
-returns-5 c = ?
+returns-5 c =
+    let services = c .before .before in
+    let captions = services .before .before in
+    in-captions _ (omega arith) (omega arith) (omega (arith, captions .captions-at .ensures))
+    (omega (arith, services .services-at .ensures)) (omega (arith, captions .captions-at .ensures))
 
--- src/find.rt:61:9
 closing-at-requires : tie.Need-closing-at-requires
 closing-at-requires c κs = search needs
 
--- src/find.rt:63:26
 add-if7 : tie.Need-add-if7
 add-if7 c = search needs
 
--- src/find.rt:63:9
 returns-6 : tie.Need-returns-6
-returns-6 c = ?
+returns-6 c =
+    let closing = c .before .before in
+    let services = closing .before .before in
+    let captions = services .before .before in
+    at-services _ (omega arith) (omega arith) (omega (arith, captions .captions-at .ensures))
+    (omega (arith, services .services-at .ensures)) (omega (arith, closing .closing-at .ensures))
+    (omega (arith, services .services-at .ensures))
 
--- src/find.rt:63:9
 returns-7 : tie.Need-returns-7
-returns-7 c = ?
+returns-7 c =
+    let closing = c .before .before in
+    let services = closing .before .before in
+    let captions = services .before .before in
+    in-services _ (omega arith) (omega arith) (omega (arith, captions .captions-at .ensures))
+    (omega (arith, services .services-at .ensures)) (omega (arith, closing .closing-at .ensures))
+    (omega (arith, services .services-at .ensures))
 
--- src/find.rt:69:15
 add-if8 : tie.Need-add-if8
 add-if8 c = search needs
 
--- src/find.rt:70:9
 returns-8 : tie.Need-returns-8
-returns-8 c = ?
+returns-8 c =
+    let closing = c .before .before in
+    let services = closing .before .before in
+    let captions = services .before .before in
+    at-closing _ (omega arith) (omega arith) (omega (arith, captions .captions-at .ensures))
+    (omega (arith, services .services-at .ensures)) (omega (arith, closing .closing-at .ensures))
+    (omega (arith, closing .closing-at .ensures))
 
--- src/find.rt:72:5
 closing-test-requires : tie.Need-closing-test-requires
 closing-test-requires c κs = search needs
 
--- src/find.rt:39:1
 returns-9 : tie.Need-returns-9
-returns-9 c = ?
+returns-9 c =
+    let closing = c .before .before .before in
+    let services = closing .before .before in
+    let captions = services .before .before in
+    c .closing-test .ensures
+    ∙ rw (closing .closing-at .ensures)
+    (in-closing _ (omega arith) (omega arith) (omega (arith, captions .captions-at .ensures))
+    (omega (arith, services .services-at .ensures)) (omega (arith, closing .closing-at .ensures))
+    (omega (arith, closing .closing-at .ensures)))
 
 pub size-test-spec : {M : Type 1} → statement M
 size-test-spec =

@@ -1,30 +1,27 @@
+-- `explain::layout::captions_at`: behind the time code, if there is one.
+-- Assumes nothing.
+use mathlib.Core.Path.{_∙_, ap, sym}
+use Rattle.values.specs.Flags.{flagsOf}
+use Rattle.values.specs.declared.flags.Flags.{Flags}
+use Rattle.explain.proofs.Layouts.{behind-time, no-time}
 use borrow.Author.Needs.{needs}
 use Rattle.explain.proofs.layout.captions_at.Statement.{statement}
 use Rattle.explain.proofs.layout.captions_at.Tie as tie
-use Rattle.explain.proofs.layout.captions_at.Reads as reads
-use Rattle.explain.proofs.layout.captions_at.Lts as lts
-use Rattle.explain.proofs.layout.byte_at.Reads as byte-at-reads
-use Rattle.values.proofs.flags.Flags.from_byte.Reads as from-byte-reads
 
--- src/layout.rt:19:34
 byte-at-requires : tie.Need-byte-at-requires
 byte-at-requires c κs = search needs
 
--- src/layout.rt:19:9
 from-byte-requires : tie.Need-from-byte-requires
 from-byte-requires c κs = search needs
 
--- src/layout.rt:21:16
 add-result : tie.Need-add-result
 add-result c = search needs
 
--- src/layout.rt:21:9
 returns : tie.Need-returns
-returns c = ?
+returns c = behind-time (c .before .before .before .before .args .packet .now) (sym (ap (λ (f : Flags). f .«time_code») (c .before .from-byte .ensures ∙ ap flagsOf (c .before .before .byte-at .ensures))) ∙ c .if1 .taken)
 
--- src/layout.rt:15:1
 returns-2 : tie.Need-returns-2
-returns-2 c = ?
+returns-2 c = no-time (c .before .before .before .before .args .packet .now) (sym (ap (λ (f : Flags). f .«time_code») (c .before .from-byte .ensures ∙ ap flagsOf (c .before .before .byte-at .ensures))) ∙ c .if1 .left)
 
 pub captions-at-spec : {M : Type 1} → statement M
 captions-at-spec =

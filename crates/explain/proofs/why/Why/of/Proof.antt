@@ -1,36 +1,44 @@
+-- `explain::Why::of`: what the reader's tests give, and the test that these leave.
+-- Assumes nothing.
+use mathlib.Core.Path.{_≡_, _∙_, sym, ap}
 use borrow.Author.Needs.{needs}
+use borrow.Author.Tests.{not-true}
+use denote.Ref.{now}
+use lib.Dec.{eqb}
+use Rattle.explain.proofs.Explained.{accepted-told, place-inside, refused-told}
 use Rattle.explain.proofs.why.Why.of.Statement.{statement}
 use Rattle.explain.proofs.why.Why.of.Tie as tie
-use Rattle.explain.proofs.why.Why.of.Reads as reads
-use Rattle.explain.proofs.why.Why.of.Lts as lts
-use Rattle.basis.proofs.answer.Answer.is_done.Reads as is-done-reads
-use Rattle.explain.proofs.find.test_of.Reads as test-of-reads
-use Rattle.explain.proofs.why.reason_for.Reads as reason-for-reads
-use Rattle.read_packet.proofs.checked.Checked.parse.Reads as parse-reads
 
--- src/why.rt:57:13
+-- the station where the packet is tested, reached through its answer
+abbrev checked : tie.After-is-done → tie.After-parse
+checked c = c .before .before
+
 parse-requires : tie.Need-parse-requires
 parse-requires c κs = search needs
 
--- src/why.rt:60:12
 is-done-requires : tie.Need-is-done-requires
 is-done-requires c κs = search needs
 
--- src/why.rt:61:13
 returns : tie.Need-returns
-returns c = ?
+returns c =
+    let e = checked (c .before) .parse .ensures in
+    let done = sym (c .before .is-done .ensures) ∙ c .if1 .taken in
+    rw e (accepted-told (c .before .before .before .before .before .args .packet .now) (rw e at done))
 
--- src/why.rt:67:13
 test-of-requires : tie.Need-test-of-requires
 test-of-requires c κs = search needs
 
--- src/why.rt:71:21
 reason-for-requires : tie.Need-reason-for-requires
-reason-for-requires c κs = ?
+reason-for-requires c κs =
+    rw (checked (c .before .before) .parse .ensures) (place-inside (c .before .before .before .before .before .before .args .packet .now))
 
--- src/why.rt:54:5
 returns-2 : tie.Need-returns-2
-returns-2 c = ?
+returns-2 c =
+    let tested = checked (c .before .before .before) in
+    let e = tested .parse .ensures in
+    let wrong = sym (c .before .before .before .is-done .ensures) ∙ c .before .before .if1 .left in
+    rw (c .reason-for .ensures, c .before .test-of .ensures, e)
+    (refused-told (c .before .before .before .before .before .before .before .args .packet .now) (rw e at wrong))
 
 pub of-spec : {M : Type 1} → statement M
 of-spec =

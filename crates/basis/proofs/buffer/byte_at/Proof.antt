@@ -1,10 +1,10 @@
--- `text_dump::captions::byte_at`: the byte, or 0 past the end.
+-- `basis::byte_at`: the byte, or 0 past the end.
 -- Assumes nothing.
 use lib.ListN.{List·getD-eq-default}
 use mathlib.Core.Path.{sym}
 use borrow.Author.Needs.{needs}
-use Rattle.text_dump.proofs.captions.byte_at.Statement.{statement}
-use Rattle.text_dump.proofs.captions.byte_at.Tie as tie
+use Rattle.basis.proofs.buffer.byte_at.Statement.{statement}
+use Rattle.basis.proofs.buffer.byte_at.Tie as tie
 
 shared-slice-read-result : tie.Need-shared-slice-read-result
 shared-slice-read-result c = search needs
