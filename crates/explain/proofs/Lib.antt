@@ -1,4 +1,3 @@
-pub mod SameByte
 pub mod Layouts
 pub mod Wanteds
 pub mod ClosingFound

@@ -9,8 +9,8 @@ use lib.ListN.{length}
 use Rattle.basis.specs.Bytes.{byte}
 use Rattle.values.specs.Checksum.{negative, total}
 use Rattle.read_closing.specs.Closing.{checksumOf}
-use Rattle.explain.proofs.SameByte.{six-bits}
-use Rattle.explain.specs.Tests.{numberWanted}
+use Rattle.explain_tests.proofs.SameByte.{six-bits}
+use Rattle.explain_tests.specs.Tests.{numberWanted}
 
 module _ (p : List ℕ) (place : ℕ) where
   pub digital-number : byte p (place + 4) / 128 % 2 ≡ 1 → byte p (place + 4) % 64 ≡ numberWanted p place

@@ -1,12 +1,12 @@
 -- Follows the code and not the rules: the test that a packet's answer and its place leave. Each part begins where the one in
 -- front of it ends, so that a place tells its part, and a size the part that the packet ends in.
-use mathlib.Core.Bool.{Bool, true, false, cond, not}
+use mathlib.Core.Bool.{cond}
 use mathlib.Core.List.{List}
 use Prim.Native.Nat.{ℕ, zero, suc, _+_, _-_, _%_}
 use lib.Dec.{eqb, ltb}
 use lib.ListN.{length}
 use Rattle.basis.specs.Bytes.{byte}
-use Rattle.basis.specs.Mask.{allClear, allSet, x20, x3E, x3F, x40, x80}
+use Rattle.basis.specs.Mask.{allSet, x40, x80}
 use Rattle.basis.specs.declared.test.ByteTest.{ByteTest}
 use Rattle.basis.specs.declared.test.ByteTest.the-variants.{
   CaptionsFixed,
@@ -106,10 +106,3 @@ testFrom p number place =
     (cond (eqb number 5) (Byte Checksum)
     (cond (eqb number 6) (Pair FooterSequence)
     (cond (eqb number 7) (Byte HeaderNumber) (cond (eqb number 8) (Byte KindNumber) (Byte ServicesFlags))))))))
-
--- an entry's header byte: 80, and with 40 also 20; and its byte 3: 40, and with 80 a number, without it 3E
-abbrev pub headerTakes : ℕ → Bool
-headerTakes v = cond (allSet x80 v) (cond (allSet x40 v) (allSet x20 v) true) false
-
-abbrev pub kindTakes : ℕ → Bool
-kindTakes v = cond (allSet x40 v) (cond (allSet x80 v) (not (allClear x3F v)) (allSet x3E v)) false

@@ -7,7 +7,7 @@ use Rattle.basis.specs.declared.test.PairTest.{PairTest}
 use Rattle.basis.specs.declared.test.Test.{Test}
 use Rattle.basis.specs.declared.test.Test.the-variants.{Byte, Pair, Size}
 use Rattle.read_packet.specs.Packet.{captionsLength, packetChecks}
-use Rattle.explain.specs.Tests.{byteRow, pairRow}
+use Rattle.explain_tests.specs.Tests.{byteRow, pairRow}
 use Rattle.explain.specs.declared.why.FailedPair.{FailedPair}
 use Rattle.explain.specs.declared.why.Reason.{Reason}
 use Rattle.explain.specs.declared.why.Reason.the-variants.{Accepted, OfByte, OfPair, OfSize}

@@ -2,14 +2,8 @@
 // and where it points leave one test, which is found here.
 mod find;
 mod layout;
-mod rule;
-mod taken;
 mod why;
 
-pub use rule::byte_rule;
-pub use rule::pair_rule;
-pub use rule::size_rule;
-pub use taken::takes;
 pub use why::FailedByte;
 pub use why::FailedPair;
 pub use why::FailedSize;

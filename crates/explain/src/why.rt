@@ -3,7 +3,7 @@ ghost use mathlib.Core.Path.{_≡_};
 ghost use Prim.Native.Nat.{_≤_};
 ghost use lib.ListN.{length};
 ghost use Rattle.read_closing.specs.Closing.{checksumOf};
-ghost use Rattle.explain.specs.Tests.{byteRow, flagsWanted, numberWanted};
+ghost use Rattle.explain_tests.specs.Tests.{byteRow, flagsWanted, numberWanted};
 ghost use Rattle.explain.specs.Why.{failedPair, reasonFor, whyOf};
 use crate::find::test_of;
 use crate::layout::services_at;

@@ -1,10 +1,10 @@
--- `explain::takes`: the tests of the byte, one by one.
+-- `explain_tests::takes`: the tests of the byte, one by one.
 -- Assumes nothing.
 use mathlib.Core.Path.{_∙_}
-use Rattle.explain.proofs.SameByte.{header-fixed, header-form, header-number, kind-field, kind-fixed, kind-number, six-bits}
+use Rattle.explain_tests.proofs.SameByte.{header-fixed, header-form, header-number, kind-field, kind-fixed, kind-number, six-bits}
 use borrow.Author.Needs.{needs}
-use Rattle.explain.proofs.taken.takes.Statement.{statement}
-use Rattle.explain.proofs.taken.takes.Tie as tie
+use Rattle.explain_tests.proofs.taken.takes.Statement.{statement}
+use Rattle.explain_tests.proofs.taken.takes.Tie as tie
 
 enum-told : tie.Need-enum-told
 enum-told c = search needs

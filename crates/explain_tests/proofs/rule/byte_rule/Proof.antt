@@ -1,8 +1,8 @@
--- `explain::byte_rule`: the rule of each test of a byte.
+-- `explain_tests::byte_rule`: the rule of each test of a byte.
 -- Assumes nothing.
 use borrow.Author.Needs.{needs}
-use Rattle.explain.proofs.rule.byte_rule.Statement.{statement}
-use Rattle.explain.proofs.rule.byte_rule.Tie as tie
+use Rattle.explain_tests.proofs.rule.byte_rule.Statement.{statement}
+use Rattle.explain_tests.proofs.rule.byte_rule.Tie as tie
 
 enum-told : tie.Need-enum-told
 enum-told c = search needs

@@ -1,8 +1,8 @@
--- `explain::taken::header`: 80, and with 40 also 20.
+-- `explain_tests::taken::header`: 80, and with 40 also 20.
 -- Assumes nothing.
 use borrow.Author.Tests.{eq-eqb, ne-eqb}
-use Rattle.explain.proofs.taken.header.Statement.{statement}
-use Rattle.explain.proofs.taken.header.Tie as tie
+use Rattle.explain_tests.proofs.taken.header.Statement.{statement}
+use Rattle.explain_tests.proofs.taken.header.Tie as tie
 
 returns : tie.Need-returns
 returns c = simp (ne-eqb _ _ (c .if1 .taken))

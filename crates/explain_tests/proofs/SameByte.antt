@@ -15,8 +15,8 @@ use Rattle.basis.specs.declared.test.ByteTest.the-variants.{
   KindNumber,
 }
 use Rattle.service_entries.specs.Entries.{namedBy}
-use Rattle.explain.specs.Code.{headerTakes, kindTakes}
-use Rattle.explain.specs.Tests.{takes}
+use Rattle.explain_tests.specs.Code.{headerTakes, kindTakes}
+use Rattle.explain_tests.specs.Tests.{takes}
 
 -- the low bits, as the code has them
 pub six-bits : (v : ℕ) → v / 1 % 64 ≡ v % 64

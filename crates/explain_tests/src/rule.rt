@@ -1,6 +1,6 @@
 // The rule that a test belongs to. What a section or an entry is refused for, in a packet, is rule 7.
 ghost use mathlib.Core.Path.{_≡_};
-ghost use Rattle.explain.specs.Tests.{byteRow, pairRow, sizeRow};
+ghost use Rattle.explain_tests.specs.Tests.{byteRow, pairRow, sizeRow};
 use basis::ByteTest;
 use basis::PairTest;
 use basis::SizeTest;

@@ -1,11 +1,11 @@
--- `explain::taken::naming`: a header byte, which names the number.
+-- `explain_tests::taken::naming`: a header byte, which names the number.
 -- Assumes nothing.
-use Rattle.explain.proofs.SameByte.{five-bits, six-bits}
+use Rattle.explain_tests.proofs.SameByte.{five-bits, six-bits}
 use borrow.Author.Tests.{eq-eqb, ne-eqb, not-false, not-true}
 use mathlib.Core.Path.{_∙_, sym}
 use borrow.Author.Needs.{needs}
-use Rattle.explain.proofs.taken.naming.Statement.{statement}
-use Rattle.explain.proofs.taken.naming.Tie as tie
+use Rattle.explain_tests.proofs.taken.naming.Statement.{statement}
+use Rattle.explain_tests.proofs.taken.naming.Tie as tie
 
 header-requires : tie.Need-header-requires
 header-requires c κs = search needs

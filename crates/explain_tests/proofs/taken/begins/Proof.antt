@@ -1,9 +1,9 @@
--- `explain::taken::begins`: 74, or 75 to EF.
+-- `explain_tests::taken::begins`: 74, or 75 to EF.
 -- Assumes nothing.
 use borrow.Author.Tests.{eq-eqb, le-leb, lt-leb, ne-eqb}
 use native.Mathlib.Omega.{arith}
-use Rattle.explain.proofs.taken.begins.Statement.{statement}
-use Rattle.explain.proofs.taken.begins.Tie as tie
+use Rattle.explain_tests.proofs.taken.begins.Statement.{statement}
+use Rattle.explain_tests.proofs.taken.begins.Tie as tie
 
 returns : tie.Need-returns
 returns c = simp (eq-eqb _ _ (c .if1 .taken))

@@ -1,9 +1,9 @@
--- `explain::taken::kind`: 40, and with 80 a number, without it 3E.
+-- `explain_tests::taken::kind`: 40, and with 80 a number, without it 3E.
 -- Assumes nothing.
-use Rattle.explain.proofs.SameByte.{six-bits}
+use Rattle.explain_tests.proofs.SameByte.{six-bits}
 use borrow.Author.Tests.{eq-eqb, ne-eqb}
-use Rattle.explain.proofs.taken.kind.Statement.{statement}
-use Rattle.explain.proofs.taken.kind.Tie as tie
+use Rattle.explain_tests.proofs.taken.kind.Statement.{statement}
+use Rattle.explain_tests.proofs.taken.kind.Tie as tie
 
 returns : tie.Need-returns
 returns c = simp (ne-eqb _ _ (c .if1 .taken))
