@@ -1,10 +1,21 @@
-"""The values that compare/why demands: those with which a packet keeps the test that it failed, and the other tests of the
-same byte's fixed bits and value. They are worked out by asking all 256 what docs/RULES.md says of the byte, and what comes
-out is tried on packets."""
+"""What has to be told of a refused packet. compare/why and compare/texts share it.
+
+Which test fails, and where, is `faults`. The values allowed are those with which the packet keeps that test, and the other
+tests of the same byte's fixed bits and value: they are worked out by asking all 256 what docs/RULES.md says of the byte. What
+comes out is tried on the first packet of each test and each row of values: with each of the 256 in its place it has to keep
+the test or fail it. Where bytes follow the footer, the checksum byte is part of its own sum, and none is tried.
+"""
+import collections
 import functools
 import sys
 
 import faults
+
+Reason = collections.namedtuple('Reason', 'test rule answer first second place found allowed')
+# The tests that look at two bytes together.
+TWO = ('2.2', '9.2')
+# What has been tried: the tests with their values.
+seen = set()
 
 
 def has(mask):
@@ -133,3 +144,16 @@ def tried(test, data, place, wanted):
         wrong = any((byte in kept) == refused(test, data, place, bytes([byte])) for byte in bytes_tried)
     if wrong:
         sys.exit(f'{test} at {place} of {data.hex()}: not {wanted}')
+
+
+def reason(data, fault):
+    """What has to be told of a packet that is refused, of its bytes and what `faults` gives for them."""
+    row, place, first, second = fault
+    test = faults.test_of(row)
+    rule = '7' if test[0] in 'SE' else test[0]
+    found = data[place:place + (2 if test in TWO else 1)].hex(' ') or 'none'
+    allowed = values(test, data, place, first)
+    if found != 'none' and (test, allowed) not in seen and not row.endswith('.behind'):
+        seen.add((test, allowed))
+        tried(test, data, place, allowed)
+    return Reason(test, rule, row.partition('/')[0], first, second, place, found, allowed)
