@@ -1,4 +1,4 @@
-"""Which test of docs/RULES.md an input fails first. compare/places and compare/why share it.
+"""Which test of docs/RULES.md an input fails first. compare/places, compare/why and compare/texts share it.
 
 `packet`, `section` and `entry` give the row of an input, the place, and the answer's two values. A row is the answer and the
 test, `4/5.3`, with `.second` where of two bytes the second alone is wrong, and `.behind` where bytes follow the footer; it is

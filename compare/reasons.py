@@ -2,8 +2,9 @@
 
 Which test fails, and where, is `faults`. The values allowed are those with which the packet keeps that test, and the other
 tests of the same byte's fixed bits and value: they are worked out by asking all 256 what docs/RULES.md says of the byte. What
-comes out is tried on the first packet of each test and each row of values: with each of the 256 in its place it has to keep
-the test or fail it. Where bytes follow the footer, the checksum byte is part of its own sum, and none is tried.
+comes out is tried on the first packet of each test and each row of values: with each of the 256 in its place, but for those
+that would move the packet's other parts, it has to keep the test or fail it. Where bytes follow the footer, the checksum
+byte is part of its own sum, and none is tried.
 """
 import collections
 import functools
@@ -70,7 +71,7 @@ TOGETHER = {
     'S8': ('S5', 'S6', 'S8'),
     **dict.fromkeys(('E1', 'E2a', 'E2b'), ('E1', 'E2a', 'E2b')),
 }
-# Bits that say where a packet's other bytes are; they stay where values are tried.
+# Bits that say which other parts a packet has, and so where they are; they stay where values are tried.
 STAY = {'S3': 0x0F, '7.4': 0xE0}
 
 
