@@ -4,7 +4,7 @@ use crate::bad_words::{good, spoilt, Word};
 use crate::random::Random;
 use crate::tape::Tape;
 
-const SHAPES: [(&str, &[Word]); 12] = [
+const SHAPES: [(&str, &[Word]); 13] = [
     ("F", &[]),
     ("G", &[]),
     ("P", &[Word::Room, Word::Bytes]),
@@ -13,6 +13,7 @@ const SHAPES: [(&str, &[Word]); 12] = [
     ("A", &[Word::Room, Word::Bytes]),
     ("B", &[Word::Bytes]),
     ("C", &[Word::Six]),
+    ("Y", &[Word::Bytes]),
     ("T", &[Word::Calls]),
     (
         "W",

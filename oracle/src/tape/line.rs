@@ -10,8 +10,8 @@ pub enum Line {
     Active,
     Section(Vec<u8>),
     Entry([u8; 6]),
-    /// A packet, a section or an entry to be read, and the place of its refusal shown.
-    Place,
+    /// A packet, a section or an entry to be read, and the place of its refusal shown, or all that tells why.
+    Why,
     Calls(Vec<Call>),
     WritePacket(usize, Held),
     WriteSection(usize, List),
@@ -44,9 +44,11 @@ pub fn parse(line: &[u8]) -> Option<Line> {
         b'G' if line == b"G" => Some(Line::Active),
         b'S' => section(line, b"S"),
         b'E' => six(line, b"E"),
-        b'A' => packet(line, b"A").map(|_| Line::Place),
-        b'B' => section(line, b"B").map(|_| Line::Place),
-        b'C' => six(line, b"C").map(|_| Line::Place),
+        b'A' => packet(line, b"A").map(|_| Line::Why),
+        b'B' => section(line, b"B").map(|_| Line::Why),
+        b'C' => six(line, b"C").map(|_| Line::Why),
+        // A packet with no room has the words of a section.
+        b'Y' => section(line, b"Y").map(|_| Line::Why),
         b'T' => calls(line),
         b'W' => write_packet(line),
         b'L' => write_section(line),

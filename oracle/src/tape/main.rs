@@ -25,8 +25,8 @@ fn run(reader: &mut CDPParser, line: Line) -> String {
     match line {
         Line::Packet(room, packet) => read::packet(reader, room, &packet),
         Line::Flush => read::flush(reader),
-        // The Rust's reader keeps no such mark, and its refusals have no place.
-        Line::Active | Line::Place => SKIP.to_string(),
+        // The Rust's reader keeps no such mark, and its refusals have no place and tell no values.
+        Line::Active | Line::Why => SKIP.to_string(),
         Line::Section(bytes) => read::section(&bytes),
         Line::Entry(bytes) => read::entry(bytes),
         Line::Calls(calls) => read::calls(&calls),
