@@ -1,6 +1,2 @@
-pub mod Layouts
 pub mod Wanteds
-pub mod ClosingFound
-pub mod SizesFound
-pub mod TestsFound
 pub mod Explained

@@ -1,7 +1,4 @@
-// Why a packet is refused: the test that it fails first, and what that test takes. The reader answers; what it answers
-// and where it points leave one test, which is found here.
-mod find;
-mod layout;
+// Why a packet is refused: the test that it fails first, and what that test takes.
 mod why;
 
 pub use why::FailedByte;

@@ -5,14 +5,14 @@ ghost use lib.ListN.{length};
 ghost use Rattle.read_closing.specs.Closing.{checksumOf};
 ghost use Rattle.explain_tests.specs.Tests.{byteRow, flagsWanted, numberWanted};
 ghost use Rattle.explain.specs.Why.{failedPair, reasonFor, whyOf};
-use crate::find::test_of;
-use crate::layout::services_at;
 use basis::Answer;
 use basis::ByteTest;
 use basis::PairTest;
 use basis::SizeTest;
 use basis::Test;
 use basis::byte_at;
+use explain_find::services_at;
+use explain_find::test_of;
 use read_packet::Checked;
 use values::checksum_byte;
 

@@ -1,0 +1,4 @@
+pub mod Layouts
+pub mod ClosingFound
+pub mod SizesFound
+pub mod TestsFound
