@@ -97,7 +97,7 @@ module _ (p q : List ℕ) (size : length q ≡ length p) where
   section-same i same = rw (same i (omega arith) (omega arith), same (i + 1) (omega arith) (omega arith), size)
 
   -- the same sections are walked over, and the footer is found at the same place
-  abbrev Walked : ℕ → ℕ → Type 0
+  abbrev pub Walked : ℕ → ℕ → Type 0
   Walked turns i = (futureChecks turns q i ≡ futureChecks turns p i) × (footerFrom turns q i ≡ footerFrom turns p i)
 
   module _ (end : ℕ) where
@@ -116,7 +116,7 @@ module _ (p q : List ℕ) (size : length q ≡ length p) where
           ap (λ (k : ℕ). footerFrom turns q (i + 2 + k)) long ∙ rest .1,
         )
 
-    walked : (turns i : ℕ) → Same p q i end → footerFrom turns p i + 2 ≤ end → Walked turns i
+    pub walked : (turns i : ℕ) → Same p q i end → footerFrom turns p i + 2 ≤ end → Walked turns i
     walked zero i same h = (refl, refl)
     walked (suc turns) i same h =
         let first : byte q i ≡ byte p i = same i (omega arith) (omega (arith, h, further (suc turns) i)) in
