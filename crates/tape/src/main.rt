@@ -10,6 +10,7 @@ mod packet_write;
 mod places;
 mod print;
 mod read;
+mod reasons;
 mod show;
 mod words;
 mod write;

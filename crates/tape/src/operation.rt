@@ -72,7 +72,7 @@ fn printed(
     at: usize,
 ) -> usize {
     match letter {
-        b'S' | b'B' => read::section(line, letter, given, out, at),
+        b'S' | b'B' | b'Y' => read::bytes(line, letter, given, out, at),
         b'E' | b'C' => read::entry(line, letter, given, out, at),
         b'T' => calls::calls(line, out, at),
         b'W' => packet_write::write(line, given, lent, out, at),

@@ -1,5 +1,6 @@
 // Bytes, words and numbers into the output buffer, which is written out when it is full. Each function takes the place of
 // the next byte and gives the place behind what it put.
+use explain::Reason;
 use text::flag;
 use text::number;
 
@@ -54,6 +55,16 @@ pub fn hex(out: &mut [u8], from: usize, shown: &[u8]) -> usize {
 
 fn two(out: &mut [u8], at: usize, shown: u8) -> usize {
     text::hex(out, room(out, at, 2), b"", shown)
+}
+
+// The bytes that a test found: two at most, and a space.
+pub fn found(out: &mut [u8], at: usize, packet: &[u8], place: usize, reason: Reason) -> usize {
+    text_why::found(out, room(out, at, 5), packet, place, reason)
+}
+
+// What a test takes: no text of it is longer.
+pub fn allowed(out: &mut [u8], at: usize, reason: Reason) -> usize {
+    text_why::allowed(out, room(out, at, 514), reason)
 }
 
 // Writes the buffer out where fewer than so many bytes are left, so that what is put next is not cut.

@@ -1,13 +1,14 @@
-// The operations S and E: a section and an entry, read from bytes. The words of B and C are the same.
+// The operations S and E: a section and an entry, read from bytes. The words of B and C are the same, and Y has those of S.
 use crate::operation::malformed;
 use crate::places;
 use crate::print::word;
+use crate::reasons;
 use crate::show;
 use crate::words;
 use service_list::ServiceEntry;
 use service_list::ServiceInfo;
 
-pub fn section(line: &[u8], letter: u8, given: &mut [u8], out: &mut [u8], at: usize) -> usize {
+pub fn bytes(line: &[u8], letter: u8, given: &mut [u8], out: &mut [u8], at: usize) -> usize {
     let found = words::bytes(line, words::operands(line), given);
     let count = found.count;
     if !words::ends(line, found.next) {
@@ -16,13 +17,14 @@ pub fn section(line: &[u8], letter: u8, given: &mut [u8], out: &mut [u8], at: us
     if given.len() < count {
         return malformed(out, at);
     }
-    if letter == b'B' {
-        return places::section(&given[0..count], out, at);
+    match letter {
+        b'Y' => reasons::packet(&given[0..count], out, at),
+        b'B' => places::section(&given[0..count], out, at),
+        _ => section(&given[0..count], out, at),
     }
-    section_of(&given[0..count], out, at)
 }
 
-fn section_of(bytes: &[u8], out: &mut [u8], at: usize) -> usize {
+fn section(bytes: &[u8], out: &mut [u8], at: usize) -> usize {
     let read = ServiceInfo::parse(bytes);
     let answer = read.answer;
     let list = read.list;
