@@ -7,11 +7,16 @@ use Prim.Native.Nat.{ℕ, zero, suc, _+_, _*_, _≤_}
 use native.Mathlib.Nat.{mul-suc}
 use native.Mathlib.Numerals.{add-one}
 use native.Mathlib.Omega.{arith}
+use lib.Dec.{eqb}
 use lib.ListN.{length, length-append}
+use Rattle.basis.specs.Answer.{done}
 use Rattle.basis.specs.Made.{made}
+use Rattle.text.proofs.Decimals.{decimal-most}
 use Rattle.text.proofs.LinesPut.{each-more, each-none}
-use Rattle.text.specs.Digits.{flagText, hexText, twoDigits}
+use Rattle.text.specs.Answers.{answerLine, bothValues}
+use Rattle.text.specs.Digits.{decimalText, flagText, hexText, twoDigits}
 use Rattle.text.specs.Lines.{lineText, linesText}
+use Rattle.basis.specs.declared.answer.Answer.{Answer}
 
 pub flag-size : (on : Bool) → length (flagText on) ≡ 1
 unfolding flagText
@@ -41,3 +46,27 @@ each-most line most h (suc n) =
       length-append (line n) (10 ∷ []),
     )
     (omega (arith, all, add-one n))
+
+-- the answer's line, of any answer and of 0
+values-most : (a : Answer) → length (bothValues a) ≤ 58
+values-most a = simp length-append (omega (arith, decimal-most (a .first), decimal-most (a .second)))
+
+answer-cases : (a : Answer) (one : Bool) → eqb (a .number) 1 ≡ one → length (answerLine a) ≤ 85
+unfolding answerLine
+answer-cases a true e =
+    rw e
+    (omega (
+      arith,
+      decimal-most (a .number),
+      values-most a,
+      length-append (decimalText (a .number)) (bothValues a),
+    ))
+answer-cases a false e =
+    rw e (omega (arith, decimal-most (a .number), length-append (decimalText (a .number)) []))
+
+pub answer-most : (a : Answer) → length (answerLine a) ≤ 85
+answer-most a = answer-cases a (eqb (a .number) 1) refl
+
+pub done-size : (l : ℕ) → length (answerLine (done l)) ≡ 8
+unfolding answerLine decimalText
+done-size l = refl

@@ -20,8 +20,9 @@ use Rattle.reader.specs.Reader.{bufferAfter, captionsOf, read, readChecks}
 use Rattle.reader.specs.Shown.{freshReader, shownBy}
 use Rattle.service_entries.specs.Entries.{places}
 use Rattle.service_list.specs.Section.{listOf}
+use Rattle.text.specs.Answers.{answerLine}
 use Rattle.text_dump.specs.Dump.{newlyRead, packetLines, readLines}
-use Rattle.text_dump.specs.Lines.{answerLine, shownLines}
+use Rattle.text_dump.specs.Lines.{shownLines}
 use Rattle.basis.specs.declared.answer.Answer.{Answer}
 use Rattle.reader.specs.declared.parser.CDPParser.{CDPParser}
 use Rattle.reader.specs.declared.parser.CDPParserRead.{CDPParserRead}

@@ -7,7 +7,6 @@ use Prim.Native.Nat.{ℕ, zero, suc, _+_, _*_, _/_, _-_, _≤_, _<_}
 use native.Mathlib.Omega.{arith}
 use lib.Dec.{eqb, leb, lit≤}
 use lib.ListN.{length, length-append, getD, replicate}
-use Rattle.basis.specs.Answer.{done}
 use Rattle.basis.specs.Bytes.{byte}
 use Rattle.basis.specs.Made.{made}
 use Rattle.basis.specs.Mask.{allClear, allSet, under, x01, x3F, x40, x80, xF0}
@@ -22,13 +21,14 @@ use Rattle.service_entries.specs.Entries.{countOf, entriesOf, filled, places}
 use Rattle.service_entry.specs.Service.{digitalEntry, filler, numberOf}
 use Rattle.service_list.specs.Section.{listOf}
 use Rattle.service_list.specs.ServiceList.{listPresent}
-use Rattle.text.proofs.Decimals.{decimal-most, decimal-within}
+use Rattle.text.proofs.Decimals.{decimal-within}
 use Rattle.text.proofs.LinesPut.{lines-append}
-use Rattle.text.proofs.Sizes.{each-most, flag-size, hex-size, two-size}
+use Rattle.text.proofs.Sizes.{answer-most, done-size, each-most, flag-size, hex-size, two-size}
+use Rattle.text.specs.Answers.{answerLine}
 use Rattle.text.specs.Digits.{decimalText}
 use Rattle.text.specs.Lines.{linesText}
 use Rattle.text_dump.specs.Dump.{dumpText, mostInput, mostText, newlyRead, packetLines, readLines}
-use Rattle.text_dump.specs.Lines.{activeLine, answerLine, bothValues, captionLines, entryLine, placeLine, rateLine, sequenceLine, serviceLine, serviceLines, shownLines, timeLine, tripletLine}
+use Rattle.text_dump.specs.Lines.{activeLine, captionLines, entryLine, placeLine, rateLine, sequenceLine, serviceLine, serviceLines, shownLines, timeLine, tripletLine}
 use Rattle.text_dump.proofs.PacketDumped.{answer-is, few-listed, packet-kept, parser-is}
 use Rattle.values.specs.Layout.{captionRoom, sectionEntrySize}
 use Rattle.values.specs.Rate.{fromId, noRate, present, row}
@@ -43,30 +43,6 @@ use Rattle.values_time.specs.declared.time.MaybeTimeCode.{MaybeTimeCode}
 
 lines-size : (xs ys : List (List ℕ)) → length (linesText (xs ++ ys)) ≡ length (linesText xs) + length (linesText ys)
 lines-size xs ys = ap length (sym (lines-append xs ys)) ∙ length-append (linesText xs) (linesText ys)
-
--- the answer's line, of any answer and of 0
-values-most : (a : Answer) → length (bothValues a) ≤ 58
-values-most a = simp length-append (omega (arith, decimal-most (a .first), decimal-most (a .second)))
-
-answer-cases : (a : Answer) (one : Bool) → eqb (a .number) 1 ≡ one → length (answerLine a) ≤ 85
-unfolding answerLine
-answer-cases a true e =
-    rw e
-    (omega (
-      arith,
-      decimal-most (a .number),
-      values-most a,
-      length-append (decimalText (a .number)) (bothValues a),
-    ))
-answer-cases a false e =
-    rw e (omega (arith, decimal-most (a .number), length-append (decimalText (a .number)) []))
-
-answer-most : (a : Answer) → length (answerLine a) ≤ 85
-answer-most a = answer-cases a (eqb (a .number) 1) refl
-
-done-size : (l : ℕ) → length (answerLine (done l)) ≡ 8
-unfolding answerLine decimalText
-done-size l = refl
 
 -- the rate's line: each of the eight, and none
 one-rate : (here : Bool) (r : Framerate) (others : MaybeFramerate) → length (rateLine r) ≤ 17

@@ -7,9 +7,10 @@ use lib.ListN.{length}
 use Rattle.values.specs.Layout.{captionRoom}
 use Rattle.reader.specs.Reader.{captionsOf, read}
 use Rattle.reader.specs.Shown.{freshReader}
+use Rattle.text.specs.Answers.{answerLine}
 use Rattle.text.specs.Ascii.{ascii}
-use Rattle.text.specs.Lines.{linesText}
-use Rattle.text_dump.specs.Lines.{Line, answerLine, shownLines}
+use Rattle.text.specs.Lines.{Line, linesText}
+use Rattle.text_dump.specs.Lines.{shownLines}
 use Rattle.reader.specs.declared.parser.CDPParserRead.{CDPParserRead}
 
 -- a packet that a new reader has read: the answer's line alone for a refusal, else what is shown and handed out below it

@@ -1,4 +1,4 @@
--- The dump's lines, as docs/RULES.md has them: of an answer, and of what a reader shows.
+-- The dump's lines below the answer's, as docs/RULES.md has them: of what a reader shows.
 use mathlib.Core.Bool.{Bool, cond}
 use mathlib.Core.List.{List, [], _∷_, _++_}
 use Prim.Native.Nat.{ℕ, _+_, _*_, _/_}
@@ -10,7 +10,7 @@ use Rattle.values.specs.Layout.{sectionHeadSize, tripletSize}
 use Rattle.service_entry.specs.Service.{filler}
 use Rattle.text.specs.Ascii.{ascii}
 use Rattle.text.specs.Digits.{flagAfter, hexAfter, numberAfter, twoAfter}
-use Rattle.basis.specs.declared.answer.Answer.{Answer}
+use Rattle.text.specs.Lines.{Line}
 use Rattle.reader.specs.declared.parser.CDPParser.{CDPParser}
 use Rattle.service_entry.specs.declared.entry.ServiceEntry.{ServiceEntry}
 use Rattle.service_entry.specs.declared.service.DigitalServiceEntry.{DigitalServiceEntry}
@@ -21,17 +21,6 @@ use Rattle.service_list.specs.declared.list.ServiceInfo.{ServiceInfo}
 use Rattle.values.specs.declared.framerate.Framerate.{Framerate}
 use Rattle.values_time.specs.declared.time.MaybeTimeCode.{MaybeTimeCode}
 use Rattle.values_time.specs.declared.time.TimeCode.{TimeCode}
-
--- a line without its end
-abbrev pub Line : Type 0
-Line = List ℕ
-
--- the answer's number, and beside 1 its two values
-abbrev pub bothValues : Answer → Line
-bothValues a = numberAfter " expected " (a .first) ++ numberAfter " actual " (a .second)
-
-unfoldable pub answerLine : Answer → Line
-answerLine a = numberAfter "answer " (a .number) ++ cond (eqb (a .number) 1) (bothValues a) []
 
 -- the rate's id, and its two numbers
 unfoldable pub rateLine : Framerate → Line

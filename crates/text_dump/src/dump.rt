@@ -58,7 +58,7 @@ fn packet(bytes: &[u8], out: &mut [u8]) -> usize
     let read = new.parse(bytes, &mut captions);
     let answer = read.answer;
     let parser = read.parser;
-    let answered = lines::answer(out, 0, answer);
+    let answered = text::answer(out, 0, answer);
     if !answer.is_done() {
         return answered;
     }

@@ -1,4 +1,4 @@
-// The lines of an answer and of what a reader shows, each part's in turn.
+// The lines of what a reader shows, each part's in turn.
 ghost use Prim.Native.Nat.{_≤_};
 ghost use Rattle.service_entries.specs.Entries.{places};
 ghost use Rattle.text.specs.Lines.{lineText, linesText};
@@ -6,7 +6,6 @@ ghost use Rattle.text.specs.Room.{PutInRoom};
 ghost use Rattle.text_dump.specs.Lines as Lines;
 use crate::captions::captions;
 use crate::list::services;
-use basis::Answer;
 use reader::CDPParser;
 use text::flag;
 use text::line;
@@ -15,19 +14,6 @@ use text::two_digits;
 use values::Framerate;
 use values_time::MaybeTimeCode;
 use values_time::TimeCode;
-
-// Of the answers that a packet can get, 1 alone has two numbers to show; the length beside 0 shows in the captions.
-pub(crate) fn answer(out: &mut [u8], at: usize, shown: Answer) -> usize
-    ensures { λ r. ⌜ PutInRoom at (lineText (Lines.answerLine shown)) (now (out .entry)) r (now (out .exit)) ⌝ }
-{
-    let named = number(out, at, b"answer ", shown.number as u64);
-    if shown.number == 1 {
-        let first = number(out, named, b" expected ", shown.first as u64);
-        let second = number(out, first, b" actual ", shown.second as u64);
-        return line(out, second, b"");
-    }
-    line(out, named, b"")
-}
 
 // What the reader shows of an accepted packet, and the captions that it handed out.
 pub(crate) fn shown(out: &mut [u8], at: usize, parser: CDPParser, handed_out: &[u8]) -> usize

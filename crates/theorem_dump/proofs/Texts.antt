@@ -24,6 +24,7 @@ use Rattle.reader.specs.Reader.{captionsOf, read}
 use Rattle.reader.specs.Shown.{shownBy}
 use Rattle.text.proofs.LinesPut.{lines-append}
 use Rattle.text.proofs.Sizes.{flag-size}
+use Rattle.text.specs.Answers.{answerLine}
 use Rattle.text.specs.Ascii.{ascii}
 use Rattle.text.specs.Digits.{decimalText, flagAfter, flagText, hexText, numberAfter, twoDigits}
 use Rattle.text.specs.Lines.{lineText, linesText}
@@ -32,7 +33,6 @@ use Rattle.text_dump.proofs.TextMost.{dump-most}
 use Rattle.text_dump.specs.Dump.{dumpText, mostInput, newlyRead, readLines}
 use Rattle.text_dump.specs.Lines.{
   activeLine,
-  answerLine,
   captionLines,
   entryLine,
   rateLine,

@@ -10,3 +10,5 @@ pub mod SectionMoved
 pub mod EveryTabled
 pub mod NeverFailed
 pub mod FailedTest
+pub mod Promises
+pub mod Reasons

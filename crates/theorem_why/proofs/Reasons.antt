@@ -3,9 +3,9 @@
 use mathlib.Core.Bool.{Bool, true, false, cond, _&&_}
 use mathlib.Core.List.{List, [], _∷_}
 use mathlib.Core.Path.{_≡_, _∙_, sym, refl, ap}
-use Prim.Native.Nat.{ℕ, zero, suc, _+_, _≤_, _<_}
+use Prim.Native.Nat.{ℕ, zero, suc, _+_, _-_, _≤_, _<_}
 use native.Mathlib.Omega.{arith}
-use borrow.Author.Tests.{eq-eqb, le-leb, ne-eqb}
+use borrow.Author.Tests.{eq-eqb, eqb-false, eqb-true, le-leb, ne-eqb}
 use lib.Dec.{eqb, leb}
 use lib.ListN.{length}
 use Rattle.basis.proofs.Verdicts.{refused-not-done}
@@ -81,11 +81,90 @@ module _ (c : ℕ) where
   none-yet zero h = refl
   none-yet (suc n) h = rw (ne-eqb n c (λ e. omega (arith, h, e)), none-yet n (omega (arith, h)))
 
-  one-run : (k : ℕ) → runsSoFar (scanned only (k + suc c)) ≡ record { low = c; high = c } ∷ []
-  unfolding scanned
-  one-run zero = rw (eq-eqb c c refl, none-yet c (omega arith))
-  one-run (suc k) = rw (ne-eqb (k + suc c) c (λ e. omega (arith, e)), one-run k)
+  abbrev one : List Run
+  one = record { low = c; high = c } ∷ []
 
-  pub alone-told : c < 256 → runsText (runsOf only) ≡ hexText c
+  step : (n : ℕ) (here : Bool) → eqb n c ≡ here → (c < n → runsSoFar (scanned only n) ≡ one) → c < suc n
+      → runsSoFar (scanned only (suc n)) ≡ one
+  unfolding scanned
+  step n true e later h =
+      let same : n ≡ c = eqb-true n c e in
+      rw (e, none-yet n (omega (arith, same))) (ap (λ (v : ℕ). record { low = v; high = v } ∷ []) same)
+  step n false e later h =
+      let other : n ≡ c → ⊥ = eqb-false n c e in
+      rw e (later (omega (arith, other, h)))
+
+  last : (n : ℕ) → c < n → runsSoFar (scanned only n) ≡ one
+  last zero h = absurd (omega (arith, h))
+  last (suc n) h = step n (eqb n c) refl (last n) h
+
+  alone-told : c < 256 → runsText (runsOf only) ≡ hexText c
   unfolding runsOf runText
-  alone-told h = ?
+  alone-told h = ap runsText (last 256 h) ∙ rw (eq-eqb c c refl)
+
+checksum-byte : (p : List ℕ) → checksumOf p < 256
+checksum-byte p = omega arith
+
+-- what is told of a packet that is refused, by the rule that it breaks first
+module _ (p : List ℕ) (rule : Rule) (fails : verdict (packetChecks p) ≡ broken rule) where
+  reason-named : whyOf p .reason ≡ reasonFor p (rule .at .test) (rule .at .place) (refused (rule .refusal) .first)
+  unfolding whyOf
+  reason-named = ap (reasonOf p) fails
+
+  place-told : whyOf p .place ≡ rule .at .place
+  unfolding whyOf
+  place-told = ap placeOf fails
+
+  rule-told : reasonRule (whyOf p .reason) ≡ ruleOf (rule .at .test)
+  rule-told =
+      ap reasonRule reason-named ∙ rule-of p (rule .at .test) (rule .at .place) (refused (rule .refusal) .first)
+
+  -- of a test by its kind
+  named-as : (test : Test) → rule .at .test ≡ test
+      → whyOf p .reason ≡ reasonFor p test (rule .at .place) (refused (rule .refusal) .first)
+  named-as test e =
+      reason-named ∙ ap (λ (t : Test). reasonFor p t (rule .at .place) (refused (rule .refusal) .first)) e
+
+  found-as : (test : Test) → rule .at .test ≡ test
+      → foundText p (whyOf p .place) (whyOf p .reason)
+      ≡ foundText p (rule .at .place) (reasonFor p test (rule .at .place) (refused (rule .refusal) .first))
+  found-as test e = rw (place-told, named-as test e)
+
+  pub refused-promise : OfRefused p rule
+  refused-promise =
+      record {
+        reasonNamed = reason-named;
+        ruleTold = rule-told;
+        placeTold = place-told;
+        ruleBroken = rule-broken p rule fails;
+        rulesKept = rules-kept p rule fails;
+        sizeFails = size-fails p rule fails;
+        pairFails = pair-fails p rule fails;
+        byteFails = byte-fails p rule fails;
+        pairFound = λ test e. found-as (Pair test) e;
+        byteFound = λ test e. found-as (Byte test) e;
+        valuesTold = λ test e. ap allowedText (named-as (Byte test) e);
+        flagsPut = λ e v taken. flags-put p rule fails e v taken;
+        checksumTold = λ e.
+            ap allowedText (named-as (Byte Checksum) e) ∙ alone-told (checksumOf p) (checksum-byte p);
+        checksumPut = λ e ends. checksum-put p rule fails e ends;
+      }
+
+-- The theorem.
+pub reasons : Reasons
+reasons =
+    record {
+      ofPacket = λ p.
+          record {
+            sameAnswer = λ s room enough. same-answer p room enough s;
+            samePlace = λ s room enough. same-place p room enough s;
+            nothingNamed = nothing-named p;
+            rulesJoined = rules-joined p;
+            allKept = all-kept p;
+            everyTabled = every-tabled p;
+            flagsMade = flags-made p;
+          };
+      ofRefused = refused-promise;
+      valuesRight = λ test said v h. runs-taken (takes test said) v h;
+      valuesApart = λ test said. runs-apart (takes test said);
+    }

@@ -1,11 +1,11 @@
--- `text_dump::lines::answer`: the number, beside 1 its two values, and the end of the line.
+-- `text::answer`: the number, beside 1 its two values, and the end of the line.
 -- Assumes nothing.
 use Rattle.text.proofs.Rooms.{behind, nothing}
 use borrow.Author.Tests.{eq-eqb, ne-eqb}
-use Rattle.text_dump.specs.Lines.{answerLine}
+use Rattle.text.specs.Answers.{answerLine}
 use borrow.Author.Needs.{needs}
-use Rattle.text_dump.proofs.lines.answer.Statement.{statement}
-use Rattle.text_dump.proofs.lines.answer.Tie as tie
+use Rattle.text.proofs.answered.answer.Statement.{statement}
+use Rattle.text.proofs.answered.answer.Tie as tie
 
 slice-aggregate-number : tie.Need-slice-aggregate-number
 slice-aggregate-number c = search needs
