@@ -3,6 +3,8 @@ use crate::print;
 use crate::print::decimal;
 use crate::print::word;
 use crate::show;
+use basis::Answer;
+use explain::Reason;
 use explain::Why;
 use text_why::rule_of;
 
@@ -19,14 +21,26 @@ pub fn packet(packet: &[u8], out: &mut [u8], at: usize) -> usize {
 fn refused(packet: &[u8], why: Why, out: &mut [u8], at: usize) -> usize {
     let answer = why.answer;
     let reason = why.reason;
+    let ruled = rule(out, at, reason);
+    let answered = answered(out, ruled, answer, why.place);
+    bytes(out, answered, packet, why.place, reason)
+}
+
+fn rule(out: &mut [u8], at: usize, reason: Reason) -> usize {
     let named = word(out, at, b"Y rule ");
-    let ruled = decimal(out, named, rule_of(reason) as u64);
-    let marked = word(out, ruled, b" answer ");
-    let answered = show::answer(out, marked, answer);
-    let pointed = word(out, answered, b" place ");
-    let placed = decimal(out, pointed, why.place as u64);
-    let looked = word(out, placed, b" found ");
-    let found = print::found(out, looked, packet, why.place, reason);
+    decimal(out, named, rule_of(reason) as u64)
+}
+
+fn answered(out: &mut [u8], at: usize, answer: Answer, place: usize) -> usize {
+    let named = word(out, at, b" answer ");
+    let shown = show::answer(out, named, answer);
+    let pointed = word(out, shown, b" place ");
+    decimal(out, pointed, place as u64)
+}
+
+fn bytes(out: &mut [u8], at: usize, packet: &[u8], place: usize, reason: Reason) -> usize {
+    let named = word(out, at, b" found ");
+    let found = print::found(out, named, packet, place, reason);
     let asked = word(out, found, b" allowed ");
     print::allowed(out, asked, reason)
 }
