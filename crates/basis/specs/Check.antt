@@ -69,9 +69,12 @@ sizeWhen present size = cond present size 0
 abbrev pub movedRule : ℕ → Rule → Rule
 movedRule from rule = ruleAt (from + rule .at .place) (rule .at .test) (rule .refusal)
 
+abbrev pub movedCheck : ℕ → Check → Check
+movedCheck from c = record { kept = c .kept; rule = movedRule from (c .rule) }
+
 abbrev pub moved : ℕ → List Check → List Check
 moved from [] = []
-moved from (c ∷ cs) = record { kept = c .kept; rule = movedRule from (c .rule) } ∷ moved from cs
+moved from (c ∷ cs) = movedCheck from c ∷ moved from cs
 
 -- what a list of checks comes to; a refusal is no answer 0 by its type, so no check is broken with "done"
 pub data VerdictOf (P : Type 0) : Type 0 where

@@ -1,13 +1,12 @@
 -- The walk over the future sections, turn by turn: what the definition gives where the packet ends in one, or in its footer.
 -- Assumes nothing.
 use mathlib.Core.List.{List}
-use mathlib.Core.Path.{_≡_, _∙_, refl, sym}
+use mathlib.Core.Path.{_≡_, _∙_, refl}
 use Prim.Native.Nat.{ℕ, zero, suc, _+_, _-_, _≤_, _<_}
 use native.Mathlib.Omega.{arith}
 use borrow.Author.Tests.{eq-eqb, le-ltb, lt-ltb, ne-eqb}
 use lib.ListN.{length}
 use Rattle.basis.specs.Bytes.{byte}
-use Rattle.basis.specs.declared.test.SizeTest.{SizeTest}
 use Rattle.basis.specs.declared.test.SizeTest.the-variants.{FooterWhole, FutureNext, FutureWhole}
 use Rattle.explain_find.specs.Code.{closingTest}
 

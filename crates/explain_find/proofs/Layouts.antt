@@ -1,12 +1,11 @@
 -- Where the parts of a packet stand, as the code finds it: from the flag of the part in front, and its count.
 -- Assumes nothing.
-use mathlib.Core.Bool.{Bool, true, false}
+use mathlib.Core.Bool.{true, false}
 use mathlib.Core.List.{List}
 use mathlib.Core.Path.{_≡_}
 use Prim.Native.Nat.{ℕ, _+_, _*_, _%_}
 use native.Mathlib.Omega.{arith}
 use Rattle.basis.specs.Bytes.{byte}
-use Rattle.basis.specs.Check.{sizeWhen}
 use Rattle.read_header.specs.Header.{flagsIn}
 use Rattle.read_packet.specs.Packet.{captionsAt, closingAt, servicesAt}
 

@@ -5,15 +5,15 @@ use mathlib.Core.List.{List, [], _∷_, _++_}
 use mathlib.Core.Path.{_≡_, _∙_, sym, refl, ap}
 use Prim.Native.Nat.{ℕ, zero, suc, _+_, _-_, _*_, _%_, _≤_, _<_}
 use native.Mathlib.Omega.{arith}
-use borrow.Author.Tests.{eq-eqb, eqb-false, eqb-true, le-ltb, leb-false, leb-true, lt-ltb, ne-eqb}
-use lib.Dec.{eqb, leb}
+use borrow.Author.Tests.{eqb-false, eqb-true, le-ltb, leb-false, leb-true, lt-ltb, ne-eqb}
+use lib.Dec.{eqb}
 use lib.ListN.{length}
-use Rattle.basis.proofs.Holds.{Holds, also, behind, both, fixed, if-there, none, unless-found, where-moved}
+use Rattle.basis.proofs.Holds.{Holds, also, behind, both, fixed, if-there, none, where-moved}
 use Rattle.basis.proofs.Places.{byte-of-part}
-use Rattle.basis.proofs.Verdicts.{kept-at, when-there}
+use Rattle.basis.proofs.Verdicts.{kept-at}
 use Rattle.basis.specs.Answer.{InvalidFixedBits, InvalidServiceNumber, refused}
 use Rattle.basis.specs.Bytes.{byte}
-use Rattle.basis.specs.Check.{Check, Rule, checkAt, clear, moved, movedRule, verdict, when}
+use Rattle.basis.specs.Check.{Check, Rule, checkAt, clear, moved, verdict, when}
 use Rattle.basis.specs.Mask.{allClear, allSet, x3E, x3F, x40, x80}
 use Rattle.basis.specs.declared.test.ByteTest.{ByteTest}
 use Rattle.basis.specs.declared.test.ByteTest.the-variants.{
@@ -22,16 +22,13 @@ use Rattle.basis.specs.declared.test.ByteTest.the-variants.{
   Checksum,
   EntryEnd,
   EntryFlags,
-  Frames,
   FutureId,
   HeaderFixed,
   HeaderForm,
   HeaderNumber,
-  Hours,
   KindField,
   KindFixed,
   KindNumber,
-  Minutes,
   Rate,
   SectionFixed,
   ServicesFlags,
@@ -52,9 +49,8 @@ use Rattle.read_captions.specs.Captions.{captionsChecks, captionsSize}
 use Rattle.read_services.proofs.ServicesReads.{as-long, count-at, section-there}
 use Rattle.read_services.specs.Services.{servicesChecks, servicesPart, servicesSize}
 use Rattle.read_closing.specs.Closing.{closingChecks, footerChecks, footerFrom, futureChecks, futureChecksAt, futureLength}
-use Rattle.read_packet.proofs.PacketReads.{captions-near, services-near}
 use Rattle.read_packet.specs.Packet.{captionsAt, closingAt, packetChecks, servicesAt, timeCodeAt}
-use Rattle.explain_find.proofs.Layouts.{behind-captions, behind-services, behind-time, no-captions, no-services, no-time}
+use Rattle.explain_find.proofs.Layouts.{behind-time, no-captions, no-services, no-time}
 use Rattle.explain_find.proofs.ClosingFound.{Come, comes-on, ends-behind, ends-in-footer, ends-in-future, sets-out}
 use Rattle.explain_find.proofs.SizesFound as Sizes
 use Rattle.values.specs.declared.flags.Flags.{Flags}
@@ -189,13 +185,21 @@ module _ (p : List ℕ) where
         captions-id : testFrom p 2 (captionsAt p) ≡ Byte CaptionsId
         unfolding idTest
         captions-id =
-            let so : idTest p (captionsAt p) ≡ CaptionsId = simp (le-ltb (captionsAt p) (captionsAt p) (omega arith), lt-ltb (captionsAt p) (servicesAt p) (omega (arith, captions-end))) in
+            let so : idTest p (captionsAt p) ≡ CaptionsId =
+            simp (
+              le-ltb (captionsAt p) (captionsAt p) (omega arith),
+              lt-ltb (captionsAt p) (servicesAt p) (omega (arith, captions-end)),
+            ) in
             of-id (captionsAt p) (omega arith) ∙ ap Byte so
 
         captions-fixed : testFrom p 4 (captionsAt p + 1) ≡ Byte CaptionsFixed
         unfolding bitsTest
         captions-fixed =
-            let so : bitsTest p (captionsAt p + 1) ≡ CaptionsFixed = simp (le-ltb (captionsAt p + 1) (captionsAt p) (omega arith), lt-ltb (captionsAt p + 1) (servicesAt p) (omega (arith, captions-end))) in
+            let so : bitsTest p (captionsAt p + 1) ≡ CaptionsFixed =
+            simp (
+              le-ltb (captionsAt p + 1) (captionsAt p) (omega arith),
+              lt-ltb (captionsAt p + 1) (servicesAt p) (omega (arith, captions-end)),
+            ) in
             of-bits (captionsAt p + 1) ∙ ap Byte so
 
         captions-found : Holds Found (captionsChecks p (captionsAt p))
@@ -288,8 +292,10 @@ module _ (p : List ℕ) where
 
             entry-found : Holds (FoundAt (λ o. servicesAt p + (at + o))) (checksAt d at)
             entry-found =
-                also (λ k. by-bit 0 (omega arith) (allSet x80) false HeaderFixed header-fixed (sym (ap (allSet x80) first-byte) ∙ k))
-                (λ k. fixed (by-bit 0 (omega arith) (allSet x80) true HeaderForm header-form (sym (ap (allSet x80) first-byte) ∙ k))
+                also (λ k. by-bit 0 (omega arith) (allSet x80) false HeaderFixed header-fixed
+                (sym (ap (allSet x80) first-byte) ∙ k))
+                (λ k. fixed (by-bit 0 (omega arith) (allSet x80) true HeaderForm header-form
+                (sym (ap (allSet x80) first-byte) ∙ k))
                 (both (moved 1 (entryChecks (sixBehind d at))) _
                 (where-moved 1 (entryChecks (sixBehind d at)) (λ rule h. h) six-found)
                 (fixed (of-number (servicesAt p + (at + 0))) none)))

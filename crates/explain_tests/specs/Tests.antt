@@ -117,7 +117,7 @@ numberWanted p place = numberOf (entryOf (sixBehind p place) .service)
 -- 7.4: the six upper bits of byte 4. 80, 40 and 20 are as they are, since with others another packet would be read; then come
 -- the section's start, change and complete
 abbrev pub flagsWanted : List ℕ → ℕ
-flagsWanted p = under (bitRun 3 5) (byte p 4) * 8 + under x70 (byte p (servicesAt p + 1))
+flagsWanted p = under xE0 (byte p 4) * 8 + under x70 (byte p (servicesAt p + 1))
 
 -- E2a asks of a digital service alone, E2b of a field; 8.2 asks of what is not the footer
 abbrev pub byteRow : ByteTest → ByteRow

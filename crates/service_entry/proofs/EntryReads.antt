@@ -71,7 +71,8 @@ module _ (e : List ℕ) where
 
 -- every refusal has one of the six bytes as its place
 kind-within : (digital kept kept′ : Bool)
-    → placedIn false 6 (cond digital (checkAt 3 (Byte KindNumber) kept InvalidServiceNumber) (checkAt 3 (Byte KindField) kept′ InvalidFixedBits) .rule) ≡ true
+    → placedIn false 6 (cond digital (checkAt 3 (Byte KindNumber) kept InvalidServiceNumber)
+    (checkAt 3 (Byte KindField) kept′ InvalidFixedBits) .rule) ≡ true
 kind-within true kept kept′ = refl
 kind-within false kept kept′ = refl
 

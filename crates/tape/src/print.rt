@@ -3,6 +3,7 @@
 use explain::Reason;
 use text::flag;
 use text::number;
+use text_why::WhyText;
 
 // The place of the next byte once the buffer could not be written out. It lies behind any buffer's end, so that nothing
 // more is put, written or said.
@@ -62,9 +63,9 @@ pub fn found(out: &mut [u8], at: usize, packet: &[u8], place: usize, reason: Rea
     text_why::found(out, room(out, at, 5), packet, place, reason)
 }
 
-// What a test takes: no text of it is longer.
+// What a test takes.
 pub fn allowed(out: &mut [u8], at: usize, reason: Reason) -> usize {
-    text_why::allowed(out, room(out, at, 514), reason)
+    text_why::allowed(out, room(out, at, WhyText::MOST_ALLOWED), reason)
 }
 
 // Writes the buffer out where fewer than so many bytes are left, so that what is put next is not cut.

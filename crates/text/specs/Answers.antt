@@ -1,7 +1,6 @@
 -- The line of an answer.
 use mathlib.Core.Bool.{cond}
-use mathlib.Core.List.{List, [], _++_}
-use Prim.Native.Nat.{ℕ}
+use mathlib.Core.List.{[], _++_}
 use lib.Dec.{eqb}
 use Rattle.text.specs.Digits.{numberAfter}
 use Rattle.text.specs.Lines.{Line}

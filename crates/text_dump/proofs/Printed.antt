@@ -1,12 +1,12 @@
 -- A buffer as long as the longest text has the whole text of any input, at its start.
 -- Assumes nothing.
 use mathlib.Core.List.{List}
-use mathlib.Core.Path.{_≡_, _∙_, sym, ap}
+use mathlib.Core.Path.{_≡_}
 use Prim.Native.Nat.{ℕ, _≤_, _<_}
 use native.Mathlib.Omega.{arith}
-use lib.ListN.{length, length-take, take}
+use lib.ListN.{length, take}
 use Rattle.basis.specs.Bytes.{byte}
-use Rattle.text.proofs.Wholes.{whole-size, whole-there}
+use Rattle.text.proofs.Wholes.{taken, taken-size, taken-within}
 use Rattle.text.specs.Whole.{textWritten}
 use Rattle.text_dump.specs.Dump.{dumpText, mostText}
 use Rattle.text_dump.proofs.TextMost.{dump-most}
@@ -19,11 +19,10 @@ module _ (input buffer after : List ℕ) (a : Answer) (bytes : (i : ℕ) → byt
   fits = omega (arith, room, dump-most input bytes)
 
   pub printed : take (a .first) after ≡ dumpText input
-  printed = rw (answered, left) (whole-there (dumpText input) buffer fits)
+  printed = taken (dumpText input) buffer after a fits answered left
 
   pub printed-size : length (take (a .first) after) ≡ a .first
-  printed-size =
-      ap length printed ∙ sym (ap (λ (x : Answer). x .first) answered ∙ whole-size (dumpText input) buffer fits)
+  printed-size = taken-size (dumpText input) buffer after a fits answered left
 
   pub printed-within : a .first ≤ length after
-  printed-within = omega (arith, printed-size, length-take (a .first) after)
+  printed-within = taken-within (dumpText input) buffer after a fits answered left

@@ -27,8 +27,21 @@ use Rattle.text.proofs.Sizes.{answer-most, done-size, each-most, flag-size, hex
 use Rattle.text.specs.Answers.{answerLine}
 use Rattle.text.specs.Digits.{decimalText}
 use Rattle.text.specs.Lines.{linesText}
-use Rattle.text_dump.specs.Dump.{dumpText, mostInput, mostText, newlyRead, packetLines, readLines}
-use Rattle.text_dump.specs.Lines.{activeLine, captionLines, entryLine, placeLine, rateLine, sequenceLine, serviceLine, serviceLines, shownLines, timeLine, tripletLine}
+use Rattle.text.specs.Whole.{mostInput}
+use Rattle.text_dump.specs.Dump.{dumpText, mostText, newlyRead, packetLines, readLines}
+use Rattle.text_dump.specs.Lines.{
+  activeLine,
+  captionLines,
+  entryLine,
+  placeLine,
+  rateLine,
+  sequenceLine,
+  serviceLine,
+  serviceLines,
+  shownLines,
+  timeLine,
+  tripletLine,
+}
 use Rattle.text_dump.proofs.PacketDumped.{answer-is, few-listed, packet-kept, parser-is}
 use Rattle.values.specs.Layout.{captionRoom, sectionEntrySize}
 use Rattle.values.specs.Rate.{fromId, noRate, present, row}

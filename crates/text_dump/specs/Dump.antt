@@ -10,6 +10,7 @@ use Rattle.reader.specs.Shown.{freshReader}
 use Rattle.text.specs.Answers.{answerLine}
 use Rattle.text.specs.Ascii.{ascii}
 use Rattle.text.specs.Lines.{Line, linesText}
+use Rattle.text.specs.Whole.{mostInput}
 use Rattle.text_dump.specs.Lines.{shownLines}
 use Rattle.reader.specs.declared.parser.CDPParserRead.{CDPParserRead}
 
@@ -24,10 +25,6 @@ newlyRead p = read freshReader p captionRoom
 
 abbrev pub packetLines : List ℕ → List Line
 packetLines p = readLines (newlyRead p) (captionsOf p)
-
--- the most bytes that are taken
-abbrev pub mostInput : ℕ
-mostInput = 4096
 
 unfoldable pub dumpText : List ℕ → List ℕ
 dumpText input =

@@ -1,5 +1,3 @@
-pub mod Scans
-pub mod RunsTaken
 pub mod Explains
 pub mod WhyMost
 pub mod WhyPrinted

@@ -1,7 +1,7 @@
 -- How long the lines of a refusal can be, one by one and together.
 -- Assumes nothing.
 use mathlib.Core.Bool.{Bool, true, false, cond}
-use mathlib.Core.List.{List, [], _∷_, _++_}
+use mathlib.Core.List.{List, [], _++_}
 use mathlib.Core.Path.{_≡_, refl}
 use Prim.Native.Nat.{ℕ, _+_, _≤_}
 use native.Mathlib.Omega.{arith}
@@ -14,10 +14,24 @@ use Rattle.text.proofs.Decimals.{decimal-most}
 use Rattle.text.proofs.Sizes.{answer-most, hex-size}
 use Rattle.text.specs.Ascii.{ascii}
 use Rattle.text.specs.Lines.{linesText}
+use Rattle.text.specs.Whole.{mostInput}
 use Rattle.text_words.proofs.WordsMost.{byte-words-most, pair-words-most, size-words-most}
 use Rattle.text_words.specs.Words.{byteWords, pairWords, sizeWords}
-use Rattle.text_why.specs.Explained.{allowedText, detailLines, foundText, linesFor, reasonRule, refusalLines, sizeText, twoBytes, whyLines, whyMostInput, whyMostText, whyText}
-use Rattle.text_why.proofs.RunsTaken.{runs-most}
+use Rattle.text_why.specs.Explained.{
+  allowedText,
+  detailLines,
+  foundText,
+  linesFor,
+  reasonRule,
+  refusalLines,
+  sizeText,
+  twoBytes,
+  whyLines,
+  whyMostAllowed,
+  whyMostText,
+  whyText,
+}
+use Rattle.text_runs.proofs.RunsTaken.{runs-most}
 use Rattle.explain.specs.declared.why.FailedSize.{FailedSize}
 use Rattle.explain.specs.declared.why.Reason.{Reason}
 use Rattle.explain.specs.declared.why.Reason.the-variants.{Accepted, OfByte, OfPair, OfSize}
@@ -39,7 +53,7 @@ more-most false = lit≤ tt
 size-most : (failed : FailedSize) → length (sizeText failed) ≤ 514
 size-most failed = simp length-append (omega (arith, decimal-most (failed .bytes), more-most (sizeRow (failed .test) .exact)))
 
-allowed-most : (reason : Reason) → length (allowedText reason) ≤ 514
+allowed-most : (reason : Reason) → length (allowedText reason) ≤ whyMostAllowed
 allowed-most Accepted = lit≤ tt
 allowed-most (OfSize failed) = size-most failed
 allowed-most (OfPair failed) = omega (arith, two-size (failed .first) (failed .second))
@@ -73,11 +87,11 @@ lines-most p w (OfSize failed) = refusal-most p w (sizeWords (failed .test)) (si
 lines-most p w (OfPair failed) = refusal-most p w (pairWords (failed .test)) (pair-words-most (failed .test))
 lines-most p w (OfByte failed) = refusal-most p w (byteWords (failed .test)) (byte-words-most (failed .test))
 
-input-cases : (p : List ℕ) (short : Bool) → leb (length p) whyMostInput ≡ short → length (whyText p) ≤ whyMostText
+input-cases : (p : List ℕ) (short : Bool) → leb (length p) mostInput ≡ short → length (whyText p) ≤ whyMostText
 unfolding whyText whyLines
 input-cases p true e = rw e (lines-most p (whyOf p) (whyOf p .reason))
 input-cases p false e = rw e (lit≤ tt)
 
 -- no input has a longer text than this
 pub why-most : (p : List ℕ) → length (whyText p) ≤ whyMostText
-why-most p = input-cases p (leb (length p) whyMostInput) refl
+why-most p = input-cases p (leb (length p) mostInput) refl

@@ -11,8 +11,9 @@ use Rattle.text.specs.Answers.{answerLine}
 use Rattle.text.specs.Ascii.{ascii}
 use Rattle.text.specs.Digits.{hexAfter, hexText, numberAfter}
 use Rattle.text.specs.Lines.{Line, linesText}
-use Rattle.text_words.specs.Words.{byteWords, pairWords, sizeWords}
-use Rattle.text_why.specs.Runs.{runsOf, runsText}
+use Rattle.text.specs.Whole.{mostInput}
+use Rattle.text_words.specs.Words.{byteWords, pairWords, refusedLine, sizeWords}
+use Rattle.text_runs.specs.Runs.{runsOf, runsText}
 use Rattle.basis.specs.declared.test.Test.{Test}
 use Rattle.basis.specs.declared.test.Test.the-variants.{Byte, Pair, Size}
 use Rattle.explain.specs.declared.why.Reason.{Reason}
@@ -27,20 +28,21 @@ reasonRule (OfSize failed) = sizeRow (failed .test) .rule
 reasonRule (OfPair failed) = pairRow (failed .test) .rule
 reasonRule (OfByte failed) = byteRow (failed .test) .rule
 
--- the packet's bytes that a test looks at: none, the two from a place on, or the one there
 abbrev pub twoBytes : ℕ → ℕ → List ℕ
 twoBytes first second = hexText first ++ hexAfter " " second
 
+-- the packet's bytes that the test looks at: none for a size, the two from a place on, or the one there
 abbrev pub foundText : List ℕ → ℕ → Reason → List ℕ
 foundText p place Accepted = []
 foundText p place (OfSize failed) = ascii "none"
 foundText p place (OfPair failed) = twoBytes (byte p place) (byte p (place + 1))
 foundText p place (OfByte failed) = hexText (byte p place)
 
--- what the test takes: a size, two bytes, or the values of the one byte
+-- just this size, or this and any above
 abbrev pub sizeText : FailedSize → List ℕ
 sizeText failed = numberAfter "size " (failed .bytes) ++ cond (sizeRow (failed .test) .exact) [] (ascii " or more")
 
+-- what the test takes: a size, two bytes, or the values of the one byte
 abbrev pub allowedText : Reason → List ℕ
 allowedText Accepted = []
 allowedText (OfSize failed) = sizeText failed
@@ -53,7 +55,7 @@ testWords (Size test) = sizeWords test
 testWords (Pair test) = pairWords test
 testWords (Byte test) = byteWords test
 
--- the six lines of a refusal, the first of them with what is said of the test
+-- a refusal: what is said of the test, and five lines below
 abbrev pub detailLines : List ℕ → Why → List Line
 detailLines p w =
     numberAfter "rule " (reasonRule (w .reason))
@@ -64,25 +66,25 @@ detailLines p w =
     ∷ []
 
 abbrev pub refusalLines : List ℕ → Why → List ℕ → List Line
-refusalLines p w words = (ascii "refused: " ++ words) ∷ detailLines p w
+refusalLines p w words = refusedLine words ∷ detailLines p w
 
+-- one line for a packet that is accepted, six for a refusal
 abbrev pub linesFor : List ℕ → Why → Reason → List Line
 linesFor p w Accepted = ascii "accepted" ∷ []
 linesFor p w (OfSize failed) = refusalLines p w (sizeWords (failed .test))
 linesFor p w (OfPair failed) = refusalLines p w (pairWords (failed .test))
 linesFor p w (OfByte failed) = refusalLines p w (byteWords (failed .test))
 
--- all lines of a packet
 unfoldable pub whyLines : List ℕ → Why → List Line
 whyLines p w = linesFor p w (w .reason)
 
--- the most bytes that are taken, and a length that no text exceeds
-abbrev pub whyMostInput : ℕ
-whyMostInput = 4096
+-- lengths that no text of what is allowed, and no whole text, exceeds
+abbrev pub whyMostAllowed : ℕ
+whyMostAllowed = 514
 
 abbrev pub whyMostText : ℕ
 whyMostText = 1024
 
 unfoldable pub whyText : List ℕ → List ℕ
 whyText input =
-    cond (leb (length input) whyMostInput) (linesText (whyLines input (whyOf input))) (linesText (ascii "input too long" ∷ []))
+    cond (leb (length input) mostInput) (linesText (whyLines input (whyOf input))) (linesText (ascii "input too long" ∷ []))

@@ -3,7 +3,6 @@ mod bytes;
 mod limits;
 mod lines;
 mod rule;
-mod taken;
 mod whole;
 
 pub use bytes::found;

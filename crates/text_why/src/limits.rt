@@ -4,12 +4,12 @@ ghost use Rattle.explain_tests.specs.Tests.{sizeRow};
 ghost use Rattle.text.specs.Room.{PutInRoom};
 ghost use Rattle.text_why.specs.Explained as Explained;
 use crate::bytes::two;
-use crate::taken::taken;
 use basis::SizeTest;
 use explain::FailedSize;
 use explain::Reason;
 use text::number;
 use text::word;
+use text_runs::taken;
 
 // A size, two bytes, or the values of one byte.
 pub fn allowed(out: &mut [u8], at: usize, reason: Reason) -> usize

@@ -4,14 +4,10 @@ ghost use Rattle.text.specs.Ascii.{ascii};
 ghost use Rattle.text.specs.Digits.{numberAfter};
 ghost use Rattle.text.specs.Lines.{lineText, linesText};
 ghost use Rattle.text.specs.Room.{PutInRoom};
-ghost use Rattle.text_words.specs.Words.{byteWords, pairWords, sizeWords};
 ghost use Rattle.text_why.specs.Explained as Explained;
 use crate::bytes::found;
 use crate::limits::allowed;
 use crate::rule::rule_of;
-use basis::ByteTest;
-use basis::PairTest;
-use basis::SizeTest;
 use explain::Reason;
 use explain::Why;
 use text::line;
@@ -30,41 +26,20 @@ pub(crate) fn lines(out: &mut [u8], at: usize, packet: &[u8], why: Why) -> usize
         Reason::Accepted => line(out, at, b"accepted"),
         Reason::OfSize(failed) => {
             let test = failed.test;
-            let said = of_size(out, at, test);
+            let said = size_words(out, at, test);
             details(out, said, packet, why)
         }
         Reason::OfPair(failed) => {
             let test = failed.test;
-            let said = of_pair(out, at, test);
+            let said = pair_words(out, at, test);
             details(out, said, packet, why)
         }
         Reason::OfByte(failed) => {
             let test = failed.test;
-            let said = of_byte(out, at, test);
+            let said = byte_words(out, at, test);
             details(out, said, packet, why)
         }
     }
-}
-
-fn of_size(out: &mut [u8], at: usize, test: SizeTest) -> usize
-    ensures { λ r. ⌜ PutInRoom at (lineText (ascii "refused: " ++ sizeWords test)) (now (out .entry)) r (now (out .exit)) ⌝ }
-{
-    let refused = word(out, at, b"refused: ");
-    size_words(out, refused, test)
-}
-
-fn of_pair(out: &mut [u8], at: usize, test: PairTest) -> usize
-    ensures { λ r. ⌜ PutInRoom at (lineText (ascii "refused: " ++ pairWords test)) (now (out .entry)) r (now (out .exit)) ⌝ }
-{
-    let refused = word(out, at, b"refused: ");
-    pair_words(out, refused, test)
-}
-
-fn of_byte(out: &mut [u8], at: usize, test: ByteTest) -> usize
-    ensures { λ r. ⌜ PutInRoom at (lineText (ascii "refused: " ++ byteWords test)) (now (out .entry)) r (now (out .exit)) ⌝ }
-{
-    let refused = word(out, at, b"refused: ");
-    byte_words(out, refused, test)
 }
 
 // The rule, the answer, the place, what was found there and what is allowed.

@@ -2,8 +2,8 @@
 ghost use mathlib.Core.List.{[], _∷_};
 ghost use mathlib.Core.Path.{_≡_};
 ghost use Rattle.text.specs.Room.{PutInRoom};
-ghost use Rattle.text.specs.Whole.{textWritten};
-ghost use Rattle.text_why.specs.Explained.{whyMostInput, whyMostText, whyText};
+ghost use Rattle.text.specs.Whole.{mostInput, textWritten};
+ghost use Rattle.text_why.specs.Explained.{whyMostAllowed, whyMostText, whyText};
 use crate::lines::lines;
 use basis::Answer;
 use explain::Why;
@@ -20,11 +20,14 @@ impl WhyText {
     // No text is longer.
     pub const MOST_TEXT: usize = 1024;
 
+    // Nor is what is allowed, by itself.
+    pub const MOST_ALLOWED: usize = 514;
+
     // Nothing calls this: its contract holds the constants above.
-    fn held() -> [usize; 2]
-        ensures { λ r. ⌜ r ≡ whyMostInput ∷ whyMostText ∷ [] ⌝ }
+    fn held() -> [usize; 3]
+        ensures { λ r. ⌜ r ≡ mostInput ∷ whyMostText ∷ whyMostAllowed ∷ [] ⌝ }
     {
-        [Self::MOST_INPUT, Self::MOST_TEXT]
+        [Self::MOST_INPUT, Self::MOST_TEXT, Self::MOST_ALLOWED]
     }
 
     // Puts the text for an input into the lent buffer and answers with its length, or answers 11 where the buffer is too

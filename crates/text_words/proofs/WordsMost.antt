@@ -5,11 +5,48 @@ use lib.Dec.{lit≤}
 use lib.ListN.{length}
 use Rattle.text_words.specs.Words.{byteWords, pairWords, sizeWords}
 use Rattle.basis.specs.declared.test.ByteTest.{ByteTest}
-use Rattle.basis.specs.declared.test.ByteTest.the-variants.{CaptionsFixed, CaptionsId, Checksum, EntryEnd, EntryFlags, Frames, FutureId, HeaderFixed, HeaderForm, HeaderNumber, Hours, KindField, KindFixed, KindNumber, Minutes, Rate, SectionFixed, SectionId, ServicesFlags, ServicesId, TimeId}
+use Rattle.basis.specs.declared.test.ByteTest.the-variants.{
+  CaptionsFixed,
+  CaptionsId,
+  Checksum,
+  EntryEnd,
+  EntryFlags,
+  Frames,
+  FutureId,
+  HeaderFixed,
+  HeaderForm,
+  HeaderNumber,
+  Hours,
+  KindField,
+  KindFixed,
+  KindNumber,
+  Minutes,
+  Rate,
+  SectionFixed,
+  SectionId,
+  ServicesFlags,
+  ServicesId,
+  TimeId,
+}
 use Rattle.basis.specs.declared.test.PairTest.{PairTest}
 use Rattle.basis.specs.declared.test.PairTest.the-variants.{FooterSequence, Magic}
 use Rattle.basis.specs.declared.test.SizeTest.{SizeTest}
-use Rattle.basis.specs.declared.test.SizeTest.the-variants.{CaptionRoom, CaptionsHead, CaptionsWhole, ClosingHead, FooterWhole, FutureNext, FutureWhole, PacketLeast, PacketSize, SectionHead, SectionSize, ServicesHead, ServicesWhole, TimeWhole}
+use Rattle.basis.specs.declared.test.SizeTest.the-variants.{
+  CaptionRoom,
+  CaptionsHead,
+  CaptionsWhole,
+  ClosingHead,
+  FooterWhole,
+  FutureNext,
+  FutureWhole,
+  PacketLeast,
+  PacketSize,
+  SectionHead,
+  SectionSize,
+  ServicesHead,
+  ServicesWhole,
+  TimeWhole,
+}
 
 pub size-words-most : (test : SizeTest) → length (sizeWords test) ≤ 72
 size-words-most CaptionRoom = lit≤ tt

@@ -1,13 +1,55 @@
 -- What is said of each test that a packet fails, in the order of the tests.
-use mathlib.Core.List.{List}
+use mathlib.Core.List.{List, _++_}
 use Prim.Native.Nat.{ℕ}
 use Rattle.text.specs.Ascii.{ascii}
+use Rattle.text.specs.Lines.{Line}
 use Rattle.basis.specs.declared.test.ByteTest.{ByteTest}
-use Rattle.basis.specs.declared.test.ByteTest.the-variants.{CaptionsFixed, CaptionsId, Checksum, EntryEnd, EntryFlags, Frames, FutureId, HeaderFixed, HeaderForm, HeaderNumber, Hours, KindField, KindFixed, KindNumber, Minutes, Rate, SectionFixed, SectionId, ServicesFlags, ServicesId, TimeId}
+use Rattle.basis.specs.declared.test.ByteTest.the-variants.{
+  CaptionsFixed,
+  CaptionsId,
+  Checksum,
+  EntryEnd,
+  EntryFlags,
+  Frames,
+  FutureId,
+  HeaderFixed,
+  HeaderForm,
+  HeaderNumber,
+  Hours,
+  KindField,
+  KindFixed,
+  KindNumber,
+  Minutes,
+  Rate,
+  SectionFixed,
+  SectionId,
+  ServicesFlags,
+  ServicesId,
+  TimeId,
+}
 use Rattle.basis.specs.declared.test.PairTest.{PairTest}
 use Rattle.basis.specs.declared.test.PairTest.the-variants.{FooterSequence, Magic}
 use Rattle.basis.specs.declared.test.SizeTest.{SizeTest}
-use Rattle.basis.specs.declared.test.SizeTest.the-variants.{CaptionRoom, CaptionsHead, CaptionsWhole, ClosingHead, FooterWhole, FutureNext, FutureWhole, PacketLeast, PacketSize, SectionHead, SectionSize, ServicesHead, ServicesWhole, TimeWhole}
+use Rattle.basis.specs.declared.test.SizeTest.the-variants.{
+  CaptionRoom,
+  CaptionsHead,
+  CaptionsWhole,
+  ClosingHead,
+  FooterWhole,
+  FutureNext,
+  FutureWhole,
+  PacketLeast,
+  PacketSize,
+  SectionHead,
+  SectionSize,
+  ServicesHead,
+  ServicesWhole,
+  TimeWhole,
+}
+
+-- the line that says it
+abbrev pub refusedLine : List ℕ → Line
+refusedLine words = ascii "refused: " ++ words
 
 abbrev pub sizeWords : SizeTest → List ℕ
 sizeWords CaptionRoom = ascii "the buffer for captions has fewer than 95 bytes"
@@ -20,9 +62,9 @@ sizeWords ServicesHead = ascii "the packet ends before the count of its services
 sizeWords ServicesWhole = ascii "the packet ends inside its service list"
 sizeWords SectionHead = ascii "the service section has fewer than two bytes"
 sizeWords SectionSize = ascii "the service section has another size than its count says"
-sizeWords ClosingHead = ascii "the packet ends before its footer"
+sizeWords ClosingHead = ascii "fewer than two bytes stand behind the packet's sections"
 sizeWords FutureWhole = ascii "the packet ends inside a future section"
-sizeWords FutureNext = ascii "the packet ends before the footer behind a future section"
+sizeWords FutureNext = ascii "fewer than two bytes stand behind a future section"
 sizeWords FooterWhole = ascii "the packet ends inside its footer"
 
 abbrev pub pairWords : PairTest → List ℕ

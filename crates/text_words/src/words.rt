@@ -1,13 +1,35 @@
-// Puts what is said of a test, and the end of the line.
+// Puts what is said of a test, as the line of a refusal.
 ghost use Rattle.text.specs.Lines.{lineText};
 ghost use Rattle.text.specs.Room.{PutInRoom};
-ghost use Rattle.text_words.specs.Words.{byteWords, pairWords, sizeWords};
+ghost use Rattle.text_words.specs.Words.{byteWords, pairWords, refusedLine, sizeWords};
 use basis::ByteTest;
 use basis::PairTest;
 use basis::SizeTest;
 use text::line;
+use text::word;
 
 pub fn size_words(out: &mut [u8], at: usize, test: SizeTest) -> usize
+    ensures { λ r. ⌜ PutInRoom at (lineText (refusedLine (sizeWords test))) (now (out .entry)) r (now (out .exit)) ⌝ }
+{
+    let refused = word(out, at, b"refused: ");
+    of_size(out, refused, test)
+}
+
+pub fn pair_words(out: &mut [u8], at: usize, test: PairTest) -> usize
+    ensures { λ r. ⌜ PutInRoom at (lineText (refusedLine (pairWords test))) (now (out .entry)) r (now (out .exit)) ⌝ }
+{
+    let refused = word(out, at, b"refused: ");
+    of_pair(out, refused, test)
+}
+
+pub fn byte_words(out: &mut [u8], at: usize, test: ByteTest) -> usize
+    ensures { λ r. ⌜ PutInRoom at (lineText (refusedLine (byteWords test))) (now (out .entry)) r (now (out .exit)) ⌝ }
+{
+    let refused = word(out, at, b"refused: ");
+    of_byte(out, refused, test)
+}
+
+fn of_size(out: &mut [u8], at: usize, test: SizeTest) -> usize
     ensures { λ r. ⌜ PutInRoom at (lineText (sizeWords test)) (now (out .entry)) r (now (out .exit)) ⌝ }
 {
     match test {
@@ -33,18 +55,22 @@ pub fn size_words(out: &mut [u8], at: usize, test: SizeTest) -> usize
             at,
             b"the service section has another size than its count says",
         ),
-        SizeTest::ClosingHead => line(out, at, b"the packet ends before its footer"),
+        SizeTest::ClosingHead => line(
+            out,
+            at,
+            b"fewer than two bytes stand behind the packet's sections",
+        ),
         SizeTest::FutureWhole => line(out, at, b"the packet ends inside a future section"),
         SizeTest::FutureNext => line(
             out,
             at,
-            b"the packet ends before the footer behind a future section",
+            b"fewer than two bytes stand behind a future section",
         ),
         SizeTest::FooterWhole => line(out, at, b"the packet ends inside its footer"),
     }
 }
 
-pub fn pair_words(out: &mut [u8], at: usize, test: PairTest) -> usize
+fn of_pair(out: &mut [u8], at: usize, test: PairTest) -> usize
     ensures { λ r. ⌜ PutInRoom at (lineText (pairWords test)) (now (out .entry)) r (now (out .exit)) ⌝ }
 {
     match test {
@@ -57,7 +83,7 @@ pub fn pair_words(out: &mut [u8], at: usize, test: PairTest) -> usize
     }
 }
 
-pub fn byte_words(out: &mut [u8], at: usize, test: ByteTest) -> usize
+fn of_byte(out: &mut [u8], at: usize, test: ByteTest) -> usize
     ensures { λ r. ⌜ PutInRoom at (lineText (byteWords test)) (now (out .entry)) r (now (out .exit)) ⌝ }
 {
     match test {

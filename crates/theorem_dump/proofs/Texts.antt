@@ -30,7 +30,8 @@ use Rattle.text.specs.Digits.{decimalText, flagAfter, flagText, hexText, number
 use Rattle.text.specs.Lines.{lineText, linesText}
 use Rattle.text_dump.proofs.PacketDumped.{parser-is}
 use Rattle.text_dump.proofs.TextMost.{dump-most}
-use Rattle.text_dump.specs.Dump.{dumpText, mostInput, newlyRead, readLines}
+use Rattle.text.specs.Whole.{mostInput}
+use Rattle.text_dump.specs.Dump.{dumpText, newlyRead, readLines}
 use Rattle.text_dump.specs.Lines.{
   activeLine,
   captionLines,

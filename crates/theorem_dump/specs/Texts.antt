@@ -12,7 +12,8 @@ use Rattle.reader.specs.Reader.{captionsOf}
 use Rattle.text.specs.Ascii.{ascii}
 use Rattle.text.specs.Digits.{flagAfter, numberAfter}
 use Rattle.text.specs.Lines.{lineText, linesText}
-use Rattle.text_dump.specs.Dump.{dumpText, mostInput, mostText, newlyRead}
+use Rattle.text.specs.Whole.{mostInput}
+use Rattle.text_dump.specs.Dump.{dumpText, mostText, newlyRead}
 use Rattle.text_dump.specs.Lines.{shownLines}
 
 -- a time code, one caption and one digital service

@@ -82,7 +82,8 @@ module _ (beside : ℕ → ℕ → Bool) where
 
   -- E2: both refusals of the kind byte are fixed ones
   kind : (digital kept kept′ : Bool) {cs : List Check} → Proper beside cs
-      → Proper beside (cond digital (checkAt 3 (Byte KindNumber) kept InvalidServiceNumber) (checkAt 3 (Byte KindField) kept′ InvalidFixedBits) ∷ cs)
+      → Proper beside (cond digital (checkAt 3 (Byte KindNumber) kept InvalidServiceNumber)
+      (checkAt 3 (Byte KindField) kept′ InvalidFixedBits) ∷ cs)
   kind true kept kept′ later = fixed refl later
   kind false kept kept′ later = fixed refl later
 

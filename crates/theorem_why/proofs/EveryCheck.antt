@@ -1,17 +1,11 @@
--- Every check of a list: of lists one after the other, of a part that may be there, of a part moved; and of the check that is
--- broken first.
+-- Every check of a list: of lists one after the other, of a part that may be there; and of the check that is broken first.
 -- Assumes nothing.
 use mathlib.Core.Bool.{Bool, true, false, cond}
 use mathlib.Core.List.{List, _++_}
 use mathlib.Core.Path.{_≡_, refl}
-use Prim.Native.Nat.{ℕ}
-use Rattle.basis.specs.Check.{Check, Rule, Verdict, broken, movedRule, verdict, when}
+use Rattle.basis.specs.Check.{Check, Rule, Verdict, broken, verdict, when}
 use Rattle.theorem_why.specs.AsTable.{Every, alsoOf, noCheck}
 use Rattle.theorem_why.proofs.SectionTests.{clash}
-
--- a check of a part, moved
-abbrev pub movedCheck : ℕ → Check → Check
-movedCheck from c = record { kept = c .kept; rule = movedRule from (c .rule) }
 
 module _ {good : Check → Type 0} where
   pub every-both : {xs ys : List Check} → Every good xs → Every good ys → Every good (xs ++ ys)

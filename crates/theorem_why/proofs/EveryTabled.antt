@@ -12,8 +12,8 @@ use lib.ListN.{length}
 use Rattle.basis.proofs.Places.{byte-of-part}
 use Rattle.basis.specs.Answer.{InvalidFixedBits, InvalidServiceNumber, LengthMismatch}
 use Rattle.basis.specs.Bytes.{byte}
-use Rattle.basis.specs.Check.{Check, checkAt, moved, sizeCheck}
-use Rattle.basis.specs.Mask.{allClear, allSet, bitRun, under, x20, x3E, x3F, x40, x80, xC0}
+use Rattle.basis.specs.Check.{Check, checkAt, moved, movedCheck, sizeCheck}
+use Rattle.basis.specs.Mask.{allClear, allSet, under, x20, x3E, x3F, x40, x80, xC0, xE0}
 use Rattle.basis.specs.declared.test.ByteTest.the-variants.{KindField, KindNumber}
 use Rattle.basis.specs.declared.test.SizeTest.{SizeTest}
 use Rattle.basis.specs.declared.test.SizeTest.the-variants.{PacketSize, SectionHead, SectionSize}
@@ -31,7 +31,7 @@ use Rattle.read_closing.specs.Closing.{closingChecks, footerChecks, futureCheck
 use Rattle.read_packet.specs.Packet.{captionsAt, closingAt, packetChecks, servicesAt, timeCodeAt}
 use Rattle.explain_tests.specs.Tests.{numberWanted, sizeRow}
 use Rattle.theorem_why.specs.AsTable.{AsTable, EachByte, Every, alsoOf, measuredBy, noCheck, pairAsks, sizeAsks}
-use Rattle.theorem_why.proofs.EveryCheck.{every-both, every-there, movedCheck}
+use Rattle.theorem_why.proofs.EveryCheck.{every-both, every-there}
 use Rattle.theorem_why.proofs.FlagsMade.{by-parts, flags-made, same-tests}
 use Rattle.theorem_why.proofs.SectionMoved.{entries-there, moved-append}
 
@@ -176,7 +176,7 @@ module _ (p : List ℕ) where
   flags-there =
       sym (flags-made p (byte p 4)
       ∙ ap (λ (b : Bool). b && sameFlags (listOf own) (flagsIn p))
-      (eq-eqb (under (bitRun 3 5) (byte p 4)) (under (bitRun 3 5) (byte p 4)) refl))
+      (eq-eqb (under xE0 (byte p 4)) (under xE0 (byte p 4)) refl))
 
   services-tabled : All (servicesChecks p (flagsIn p) at)
   services-tabled =

@@ -9,7 +9,7 @@ use borrow.Author.Tests.{eq-eqb, eqb-false, eqb-true, ne-eqb}
 use lib.Dec.{eqb}
 use Rattle.basis.proofs.Bools.{and-left, and-right}
 use Rattle.basis.specs.Bytes.{byte}
-use Rattle.basis.specs.Mask.{bitRun, under}
+use Rattle.basis.specs.Mask.{under, xE0}
 use Rattle.basis.specs.declared.test.ByteTest.the-variants.{ServicesFlags}
 use Rattle.values.specs.Flags.{flagsOf}
 use Rattle.service_list.specs.Section.{listOf}
@@ -99,7 +99,7 @@ six-bits v b s =
 
 pub flags-made : (p : List ℕ) (v : ℕ)
     → asks ServicesFlags (flagsWanted p) v
-    ≡ (eqb (under (bitRun 3 5) v) (under (bitRun 3 5) (byte p 4))
+    ≡ (eqb (under xE0 v) (under xE0 (byte p 4))
     && sameFlags (listOf (servicesPart p (servicesAt p))) (flagsOf v))
 unfolding sameFlags listOf
 flags-made p v =

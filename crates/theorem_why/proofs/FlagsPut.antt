@@ -14,7 +14,7 @@ use Rattle.basis.proofs.Holds.{fixed}
 use Rattle.basis.proofs.Verdicts.{andThen, kept-at, verdict-append}
 use Rattle.basis.specs.Bytes.{byte}
 use Rattle.basis.specs.Check.{Check, Rule, broken, clear, verdict, when}
-use Rattle.basis.specs.Mask.{bitRun, under}
+use Rattle.basis.specs.Mask.{under, xE0}
 use Rattle.basis.specs.declared.test.ByteTest.the-variants.{ServicesFlags}
 use Rattle.basis.specs.declared.test.Test.{Test}
 use Rattle.basis.specs.declared.test.Test.the-variants.{Byte}
@@ -105,7 +105,7 @@ module _ (p : List ℕ) (rule : Rule) (refused : verdict (packetChecks p) ≡ br
   long = leb-true _ _ (kept-at 0 (packetFrameChecks p) (before-seven 2 (omega arith)))
 
   -- what the value has: the three upper bits of byte 4, and the section's flags
-  both-asked : (eqb (under (bitRun 3 5) v) (under (bitRun 3 5) (byte p 4))
+  both-asked : (eqb (under xE0 v) (under xE0 (byte p 4))
       && sameFlags (listOf (servicesPart p at)) (flagsOf v))
       ≡ true
   both-asked = sym (flags-made p v) ∙ taken
@@ -114,7 +114,7 @@ module _ (p : List ℕ) (rule : Rule) (refused : verdict (packetChecks p) ≡ br
   bits = upper v (byte p 4) (eqb-true _ _ (and-left _ _ both-asked))
 
   agree : sameFlags (listOf (servicesPart p at)) (flagsOf v) ≡ true
-  agree = and-right (eqb (under (bitRun 3 5) v) (under (bitRun 3 5) (byte p 4))) _ both-asked
+  agree = and-right (eqb (under xE0 v) (under xE0 (byte p 4))) _ both-asked
 
   -- the packet with it
   put-in : flagsIn q ≡ flagsOf v

@@ -15,15 +15,16 @@ use Rattle.text.specs.Answers.{answerLine}
 use Rattle.text.specs.Ascii.{ascii}
 use Rattle.text.specs.Digits.{decimalText, hexText}
 use Rattle.text.specs.Lines.{linesText}
-use Rattle.text_why.specs.Explained.{refusalLines, testWords, whyLines, whyMostInput, whyText}
-use Rattle.text_why.specs.Runs.{runText, runsOf, scanned}
+use Rattle.text.specs.Whole.{mostInput}
+use Rattle.text_why.specs.Explained.{refusalLines, testWords, whyLines, whyText}
+use Rattle.text_runs.specs.Runs.{runText, runsOf, scanned}
 use Rattle.text_why.proofs.Explains.{byte-lines, pair-lines, size-lines}
 use Rattle.values.specs.Rate.{fromId}
 use Rattle.basis.specs.declared.test.Test.{Test}
 use Rattle.basis.specs.declared.test.Test.the-variants.{Byte, Pair, Size}
 
 -- the reason is made of the first rule that is broken
-reason-is : (p : List ℕ) (rule : Rule) → verdict (packetChecks p) ≡ broken rule
+pub reason-is : (p : List ℕ) (rule : Rule) → verdict (packetChecks p) ≡ broken rule
     → whyOf p .reason ≡ reasonFor p (rule .at .test) (rule .at .place) (refused (rule .refusal) .first)
 unfolding whyOf
 reason-is p rule fails = ap (reasonOf p) fails
@@ -34,10 +35,10 @@ refused-lines p rule (Size test) e fails = size-lines p (whyOf p) _ (rw e at (re
 refused-lines p rule (Pair test) e fails = pair-lines p (whyOf p) _ (rw e at (reason-is p rule fails))
 refused-lines p rule (Byte test) e fails = byte-lines p (whyOf p) _ (rw e at (reason-is p rule fails))
 
-module _ (p : List ℕ) (short : length p ≤ whyMostInput) where
-  pub lines-text : whyText p ≡ linesText (whyLines p (whyOf p))
+module _ (p : List ℕ) (short : length p ≤ mostInput) where
+  lines-text : whyText p ≡ linesText (whyLines p (whyOf p))
   unfolding whyText
-  lines-text = rw (le-leb (length p) whyMostInput short)
+  lines-text = rw (le-leb (length p) mostInput short)
 
   pub accepted-text : verdict (packetChecks p) ≡ clear → whyText p ≡ ascii "accepted\n"
   unfolding whyLines whyOf
@@ -47,9 +48,9 @@ module _ (p : List ℕ) (short : length p ≤ whyMostInput) where
       → whyText p ≡ linesText (refusalLines p (whyOf p) (testWords (rule .at .test)))
   refused-text rule fails = lines-text ∙ ap linesText (refused-lines p rule (rule .at .test) refl fails)
 
-pub too-long : (input : List ℕ) → whyMostInput < length input → whyText input ≡ ascii "input too long\n"
+pub too-long : (input : List ℕ) → mostInput < length input → whyText input ≡ ascii "input too long\n"
 unfolding whyText
-too-long input h = rw (lt-leb (length input) whyMostInput h)
+too-long input h = rw (lt-leb (length input) mostInput h)
 
 -- P2 of docs/RULES.md: the shortest packet with another checksum byte
 pub bad-checksum : whyText (0x96 ∷ 0x69 ∷ 0x0B ∷ 0x3F ∷ 0x01 ∷ 0x00 ∷ 0x00 ∷ 0x74 ∷ 0x00 ∷ 0x00 ∷ 0x43 ∷ [])

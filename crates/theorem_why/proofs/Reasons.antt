@@ -1,43 +1,52 @@
 -- What is promised of the reason that a desk is told.
 -- Assumes nothing.
-use mathlib.Core.Bool.{Bool, true, false, cond, _&&_}
+use mathlib.Core.Bool.{Bool, true, false, cond, _&&_, true≢false}
 use mathlib.Core.List.{List, [], _∷_}
 use mathlib.Core.Path.{_≡_, _∙_, sym, refl, ap}
 use Prim.Native.Nat.{ℕ, zero, suc, _+_, _-_, _≤_, _<_}
 use native.Mathlib.Omega.{arith}
-use borrow.Author.Tests.{eq-eqb, eqb-false, eqb-true, le-leb, ne-eqb}
-use lib.Dec.{eqb, leb}
+use borrow.Author.Tests.{eq-eqb, eqb-false, eqb-true, le-leb, leb-true, ltb-true, ne-eqb}
+use lib.Dec.{eqb, leb, ltb}
 use lib.ListN.{length}
+use Rattle.basis.proofs.Bools.{and-right}
+use Rattle.basis.proofs.Holds.{Holds, also, fixed, none}
 use Rattle.basis.proofs.Verdicts.{refused-not-done}
 use Rattle.basis.specs.Answer.{refused}
 use Rattle.basis.specs.Check.{Rule, Verdict, answer, broken, clear, placeOf, verdict}
-use Rattle.basis.specs.declared.answer.Answer.{Answer}
 use Rattle.basis.specs.declared.test.ByteTest.{ByteTest}
-use Rattle.basis.specs.declared.test.ByteTest.the-variants.{Checksum}
+use Rattle.basis.specs.declared.test.ByteTest.the-variants.{Checksum, ServicesFlags}
+use Rattle.basis.specs.declared.test.PairTest.{PairTest}
+use Rattle.basis.specs.declared.test.PairTest.the-variants.{FooterSequence, Magic}
 use Rattle.basis.specs.declared.test.Test.{Test}
 use Rattle.basis.specs.declared.test.Test.the-variants.{Byte, Pair, Size}
-use Rattle.values.specs.Checksum.{negative, total}
 use Rattle.values.specs.Layout.{captionRoom}
-use Rattle.read_closing.specs.Closing.{checksumOf}
-use Rattle.read_packet.specs.Packet.{captionsLength, packetChecks}
-use Rattle.reader.specs.Reader.{captionRoomCheck, read, readChecks}
+use Rattle.read_header.specs.Header.{packetFrameChecks, sequenceIn}
+use Rattle.read_closing.specs.Closing.{checksumOf, footerChecks}
+use Rattle.read_packet.proofs.Answers.{packet-inside}
+use Rattle.read_packet.specs.Packet.{captionsLength, footerAt, packetChecks}
+use Rattle.reader.specs.Reader.{read, readChecks}
 use Rattle.reader.specs.declared.parser.CDPParser.{CDPParser}
-use Rattle.explain_tests.specs.Tests.{byteRow, ruleOf, takes}
+use Rattle.explain_tests.specs.Tests.{ruleOf, takes}
 use Rattle.explain.specs.Why.{reasonFor, reasonOf, whyOf}
-use Rattle.explain.specs.declared.why.Reason.{Reason}
-use Rattle.explain.specs.declared.why.Why.{Why}
+use Rattle.explain.specs.declared.why.Reason.the-variants.{Accepted}
+use Rattle.explain_find.proofs.TestsFound.{test-found}
+use Rattle.explain_find.specs.Code.{testFrom}
 use Rattle.text.specs.Digits.{hexText}
-use Rattle.text_why.proofs.RunsTaken.{runs-apart, runs-taken}
+use Rattle.text_runs.proofs.RunsTaken.{runs-apart, runs-taken}
 use Rattle.text_why.specs.Explained.{allowedText, foundText, reasonRule}
-use Rattle.text_why.specs.Runs.{Run, Scanned, runText, runsOf, runsSoFar, runsText, scanned}
+use Rattle.text_runs.specs.Runs.{Run, runText, runsOf, runsSoFar, runsText, scanned}
 use Rattle.theorem_why.proofs.ChecksumPut.{checksum-put}
 use Rattle.theorem_why.proofs.EveryTabled.{every-tabled}
-use Rattle.theorem_why.proofs.FailedTest.{byte-fails, pair-fails, size-fails}
+use Rattle.theorem_why.proofs.FailedTest.{byte-fails, pair-fails, size-answers, size-fails}
 use Rattle.theorem_why.proofs.FlagsMade.{flags-made}
 use Rattle.theorem_why.proofs.FlagsPut.{flags-put}
+use Rattle.theorem_why.proofs.NeverFailed.{never-head, never-id, never-size}
+use Rattle.theorem_why.proofs.Promises.{accepted-text, bad-checksum, reason-is, refused-text, too-long}
 use Rattle.theorem_why.proofs.ReasonTrue.{all-kept, rule-broken, rules-kept}
 use Rattle.theorem_why.proofs.RulesJoined.{rules-joined}
-use Rattle.theorem_why.specs.Reasons.{OfPacket, OfRefused, Reasons, namesNothing}
+use Rattle.text_why.proofs.WhyMost.{why-most}
+use Rattle.theorem_why.specs.Rules.{RuleBroken, ruleChecks}
+use Rattle.theorem_why.specs.Reasons.{OfRefused, Reasons, namesNothing}
 
 -- what is told of a verdict
 told-nothing : (p : List ℕ) (v : Verdict) (count : ℕ) → namesNothing (reasonOf p v) ≡ eqb (answer v count .number) 0
@@ -105,49 +114,121 @@ module _ (c : ℕ) where
 checksum-byte : (p : List ℕ) → checksumOf p < 256
 checksum-byte p = omega arith
 
+accepted-reason : (p : List ℕ) → verdict (packetChecks p) ≡ clear → whyOf p .reason ≡ Accepted
+unfolding whyOf
+accepted-reason p kept = ap (reasonOf p) kept
+
+-- a test of a byte is answered by no size, so that its place is one of the packet's bytes
+abbrev of-size : Test → Bool
+of-size (Size test) = true
+of-size (Pair test) = false
+of-size (Byte test) = false
+
+no-size : (p : List ℕ) (place number : ℕ) (test : ByteTest) (one : Bool) → eqb number 1 ≡ one
+    → testFrom p number place ≡ Byte test
+    → cond one (true && eqb place (length p)) (leb number 9 && ltb place (length p)) ≡ true → place < length p
+unfolding testFrom
+no-size p place number test true e found h = absurd (true≢false (ap of-size (rw e at found)))
+no-size p place number test false e found h =
+    ltb-true place (length p) (and-right (leb number 9) (ltb place (length p)) h)
+
+-- two bytes that are tested together are both there
+abbrev PairThere : List ℕ → ℕ → Test → Type 0
+PairThere p place (Size test) = Unit
+PairThere p place (Pair test) = place + 1 < length p
+PairThere p place (Byte test) = Unit
+
+frame-there : (p : List ℕ) → Holds (λ (rule : Rule). PairThere p (rule .at .place) (rule .at .test)) (packetFrameChecks p)
+frame-there p =
+    also (λ _. tt) (λ k. fixed (omega (arith, leb-true 11 (length p) k)) (fixed tt none))
+
+footer-there : (p : List ℕ) (sequence i : ℕ)
+    → Holds (λ (rule : Rule). PairThere p (rule .at .place) (rule .at .test)) (footerChecks p sequence i)
+footer-there p sequence i =
+    also (λ _. tt) (λ k. fixed (omega (arith, leb-true (i + 4) (length p) k)) (fixed tt none))
+
+two-there : (p : List ℕ) (place : ℕ) (of : Test) (test : PairTest) → of ≡ Pair test → PairThere p place of
+    → place + 1 < length p
+two-there p place of test e h = rw e at h
+
 -- what is told of a packet that is refused, by the rule that it breaks first
 module _ (p : List ℕ) (rule : Rule) (fails : verdict (packetChecks p) ≡ broken rule) where
-  reason-named : whyOf p .reason ≡ reasonFor p (rule .at .test) (rule .at .place) (refused (rule .refusal) .first)
-  unfolding whyOf
-  reason-named = ap (reasonOf p) fails
-
   place-told : whyOf p .place ≡ rule .at .place
   unfolding whyOf
   place-told = ap placeOf fails
 
   rule-told : reasonRule (whyOf p .reason) ≡ ruleOf (rule .at .test)
   rule-told =
-      ap reasonRule reason-named ∙ rule-of p (rule .at .test) (rule .at .place) (refused (rule .refusal) .first)
+      ap reasonRule (reason-is p rule fails) ∙ rule-of p (rule .at .test) (rule .at .place) (refused (rule .refusal) .first)
 
   -- of a test by its kind
   named-as : (test : Test) → rule .at .test ≡ test
       → whyOf p .reason ≡ reasonFor p test (rule .at .place) (refused (rule .refusal) .first)
   named-as test e =
-      reason-named ∙ ap (λ (t : Test). reasonFor p t (rule .at .place) (refused (rule .refusal) .first)) e
+      reason-is p rule fails ∙ ap (λ (t : Test). reasonFor p t (rule .at .place) (refused (rule .refusal) .first)) e
 
   found-as : (test : Test) → rule .at .test ≡ test
       → foundText p (whyOf p .place) (whyOf p .reason)
       ≡ foundText p (rule .at .place) (reasonFor p test (rule .at .place) (refused (rule .refusal) .first))
   found-as test e = rw (place-told, named-as test e)
 
+  -- the test that the answer leaves is the one that fails
+  found-test : testFrom p (refused (rule .refusal) .number) (rule .at .place) ≡ rule .at .test
+  found-test = rw fails at (test-found p .it)
+
+  five : refused (rule .refusal) .number ≡ 5 → rule .at .test ≡ Byte Checksum
+  unfolding testFrom
+  five e = sym (rw e at found-test)
+
+  nine : refused (rule .refusal) .number ≡ 9 → rule .at .test ≡ Byte ServicesFlags
+  unfolding testFrom
+  nine e = sym (rw e at found-test)
+
+  -- where it looks at bytes, these are the packet's
+  byte-inside : (test : ByteTest) → rule .at .test ≡ Byte test → rule .at .place < length p
+  byte-inside test e =
+      let number : ℕ = refused (rule .refusal) .number in
+      no-size p (rule .at .place) number test (eqb number 1) refl (found-test ∙ e) (rw fails at (packet-inside p .it))
+
+  own : (test : PairTest) → rule .at .test ≡ Pair test → RuleBroken p (ruleOf (Pair test)) rule
+  own test e = sym (ap (λ (t : Test). verdict (ruleChecks p (ruleOf t))) e) ∙ rule-broken p rule fails
+
+  pair-inside : (test : PairTest) → rule .at .test ≡ Pair test → rule .at .place + 1 < length p
+  pair-inside Magic e =
+      two-there p (rule .at .place) (rule .at .test) Magic e (rw (own Magic e) at (frame-there p .it))
+  pair-inside FooterSequence e =
+      two-there p (rule .at .place) (rule .at .test) FooterSequence e
+      (rw (own FooterSequence e) at (footer-there p (sequenceIn p) (footerAt p) .it))
+
   pub refused-promise : OfRefused p rule
   refused-promise =
       record {
-        reasonNamed = reason-named;
+        reasonNamed = reason-is p rule fails;
         ruleTold = rule-told;
         placeTold = place-told;
         ruleBroken = rule-broken p rule fails;
         rulesKept = rules-kept p rule fails;
+        neverHead = never-head p rule fails;
+        neverId = never-id p rule fails;
+        neverSize = never-size p rule fails;
         sizeFails = size-fails p rule fails;
+        sizeAnswers = size-answers p rule fails;
         pairFails = pair-fails p rule fails;
         byteFails = byte-fails p rule fails;
+        pairInside = pair-inside;
         pairFound = λ test e. found-as (Pair test) e;
+        byteInside = byte-inside;
         byteFound = λ test e. found-as (Byte test) e;
+        sizeTold = λ test e. ap allowedText (named-as (Size test) e);
+        pairTold = λ test e. ap allowedText (named-as (Pair test) e);
         valuesTold = λ test e. ap allowedText (named-as (Byte test) e);
-        flagsPut = λ e v taken. flags-put p rule fails e v taken;
+        flagsFail = nine;
+        flagsPut = λ e v taken. flags-put p rule fails (nine e) v taken;
+        checksumFails = five;
         checksumTold = λ e.
-            ap allowedText (named-as (Byte Checksum) e) ∙ alone-told (checksumOf p) (checksum-byte p);
-        checksumPut = λ e ends. checksum-put p rule fails e ends;
+            ap allowedText (named-as (Byte Checksum) (five e)) ∙ alone-told (checksumOf p) (checksum-byte p);
+        checksumPut = λ e ends. accepted-reason _ (checksum-put p rule fails (five e) ends);
+        refusedText = λ short. refused-text p short rule fails;
       }
 
 -- The theorem.
@@ -163,8 +244,12 @@ reasons =
             allKept = all-kept p;
             everyTabled = every-tabled p;
             flagsMade = flags-made p;
+            acceptedText = accepted-text p;
+            tooLong = too-long p;
+            textMost = why-most p;
           };
       ofRefused = refused-promise;
-      valuesRight = λ test said v h. runs-taken (takes test said) v h;
+      valuesRight = λ test said v. runs-taken (takes test said) v;
       valuesApart = λ test said. runs-apart (takes test said);
+      badChecksum = bad-checksum;
     }

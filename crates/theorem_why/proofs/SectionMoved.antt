@@ -7,10 +7,9 @@ use native.Mathlib.Nat.{add-assoc}
 use native.Mathlib.Omega.{arith}
 use Rattle.basis.proofs.Places.{byte-of-part}
 use Rattle.basis.specs.Bytes.{byte, part}
-use Rattle.basis.specs.Check.{Check, moved}
+use Rattle.basis.specs.Check.{Check, moved, movedCheck}
 use Rattle.values.specs.Layout.{sectionEntrySize}
 use Rattle.service_entries.specs.Entries.{checksAt, entryListChecks}
-use Rattle.theorem_why.proofs.EveryCheck.{movedCheck}
 
 -- checks moved: of lists one after the other, and twice
 pub moved-append : (i : ℕ) (xs ys : List Check) → moved i (xs ++ ys) ≡ moved i xs ++ moved i ys

@@ -12,7 +12,9 @@ byte-at-requires : tie.Need-byte-at-requires
 byte-at-requires c κs = search needs
 
 returns : tie.Need-returns
-returns c = rw (c .before .byte-at .ensures) (digital-number (c .before .before .before .args .packet .now) _ (rw (c .before .byte-at .ensures) at (c .if1 .taken)))
+returns c =
+    rw (c .before .byte-at .ensures)
+    (digital-number (c .before .before .before .args .packet .now) _ (rw (c .before .byte-at .ensures) at (c .if1 .taken)))
 
 returns-2 : tie.Need-returns-2
 returns-2 c = field-number (c .before .before .before .args .packet .now) _ (rw (c .before .byte-at .ensures) at (c .if1 .left))

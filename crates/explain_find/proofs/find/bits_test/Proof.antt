@@ -16,7 +16,9 @@ time-test-requires c κs = search needs
 
 returns : tie.Need-returns
 unfolding bitsTest
-returns c = rw (c .time-test .ensures) (simp (lt-ltb _ _ (rw (c .before .before .captions-at .ensures) at (c .before .if1 .taken))))
+returns c =
+    rw (c .time-test .ensures) (simp (lt-ltb _ _ (rw (c .before .before .captions-at .ensures)
+    at (c .before .if1 .taken))))
 
 services-at-requires : tie.Need-services-at-requires
 services-at-requires c κs = search needs
@@ -30,7 +32,12 @@ returns-2 c =
     )
 
 add-if3 : tie.Need-add-if3
-add-if3 c = omega (arith, c .before .services-at .ensures, services-near (c .before .before .before .before .before .args .packet .now))
+add-if3 c =
+    omega (
+      arith,
+      c .before .services-at .ensures,
+      services-near (c .before .before .before .before .before .args .packet .now),
+    )
 
 returns-3 : tie.Need-returns-3
 unfolding bitsTest
@@ -58,7 +65,8 @@ returns-4 c =
     let placed = tested .before .before .services-at .ensures in
     rw (c .entry-test .ensures, c .before .byte-at .ensures, placed)
     (simp (
-      le-ltb _ _ (rw (tested .before .before .before .before .captions-at .ensures) at (tested .before .before .before .if1 .left)),
+      le-ltb _ _ (rw (tested .before .before .before .before .captions-at .ensures)
+          at (tested .before .before .before .if1 .left)),
       le-ltb _ _ (rw placed at (tested .before .if2 .left)),
       le-ltb _ _ (rw placed at (tested .if3 .left)),
     ))

@@ -31,7 +31,8 @@ returns-3 : tie.Need-returns-3
 unfolding idTest
 returns-3 c =
     simp (
-      le-ltb _ _ (rw (c .before .before .before .before .before .captions-at .ensures) at (c .before .before .before .before .if1 .left)),
+      le-ltb _ _ (rw (c .before .before .before .before .before .captions-at .ensures)
+          at (c .before .before .before .before .if1 .left)),
       le-ltb _ _ (rw (c .before .before .before .services-at .ensures) at (c .before .before .if2 .left)),
       lt-ltb _ _ (rw (c .before .closing-at .ensures) at (c .if3 .taken)),
     )
@@ -40,7 +41,8 @@ returns-4 : tie.Need-returns-4
 unfolding idTest
 returns-4 c =
     simp (
-      le-ltb _ _ (rw (c .before .before .before .before .before .captions-at .ensures) at (c .before .before .before .before .if1 .left)),
+      le-ltb _ _ (rw (c .before .before .before .before .before .captions-at .ensures)
+          at (c .before .before .before .before .if1 .left)),
       le-ltb _ _ (rw (c .before .before .before .services-at .ensures) at (c .before .before .if2 .left)),
       le-ltb _ _ (rw (c .before .closing-at .ensures) at (c .if3 .left)),
     )

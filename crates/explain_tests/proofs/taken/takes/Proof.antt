@@ -1,7 +1,15 @@
 -- `explain_tests::takes`: the tests of the byte, one by one.
 -- Assumes nothing.
 use mathlib.Core.Path.{_∙_}
-use Rattle.explain_tests.proofs.SameByte.{header-fixed, header-form, header-number, kind-field, kind-fixed, kind-number, six-bits}
+use Rattle.explain_tests.proofs.SameByte.{
+  header-fixed,
+  header-form,
+  header-number,
+  kind-field,
+  kind-fixed,
+  kind-number,
+  six-bits,
+}
 use borrow.Author.Needs.{needs}
 use Rattle.explain_tests.proofs.taken.takes.Statement.{statement}
 use Rattle.explain_tests.proofs.taken.takes.Tie as tie
@@ -124,22 +132,34 @@ returns-10 : tie.Need-returns-10
 returns-10 c = rw (c .enum-told10 .given .1)
 
 returns-11 : tie.Need-returns-11
-returns-11 c = rw (c .before .enum-told11 .given .1) (c .header .ensures ∙ header-fixed (c .before .before .before .args .said) (c .before .before .before .args .value))
+returns-11 c =
+    let asked = c .before .before .before .args in
+    rw (c .before .enum-told11 .given .1) (c .header .ensures ∙ header-fixed (asked .said) (asked .value))
 
 returns-12 : tie.Need-returns-12
-returns-12 c = rw (c .before .enum-told12 .given .1) (c .header2 .ensures ∙ header-form (c .before .before .before .args .said) (c .before .before .before .args .value))
+returns-12 c =
+    let asked = c .before .before .before .args in
+    rw (c .before .enum-told12 .given .1) (c .header2 .ensures ∙ header-form (asked .said) (asked .value))
 
 returns-13 : tie.Need-returns-13
-returns-13 c = rw (c .before .enum-told13 .given .1) (c .naming .ensures ∙ header-number (c .before .before .before .args .said) (c .before .before .before .args .value))
+returns-13 c =
+    let asked = c .before .before .before .args in
+    rw (c .before .enum-told13 .given .1) (c .naming .ensures ∙ header-number (asked .said) (asked .value))
 
 returns-14 : tie.Need-returns-14
-returns-14 c = rw (c .before .enum-told14 .given .1) (c .kind .ensures ∙ kind-fixed (c .before .before .before .args .said) (c .before .before .before .args .value))
+returns-14 c =
+    let asked = c .before .before .before .args in
+    rw (c .before .enum-told14 .given .1) (c .kind .ensures ∙ kind-fixed (asked .said) (asked .value))
 
 returns-15 : tie.Need-returns-15
-returns-15 c = rw (c .before .enum-told15 .given .1) (c .kind2 .ensures ∙ kind-number (c .before .before .before .args .said) (c .before .before .before .args .value))
+returns-15 c =
+    let asked = c .before .before .before .args in
+    rw (c .before .enum-told15 .given .1) (c .kind2 .ensures ∙ kind-number (asked .said) (asked .value))
 
 returns-16 : tie.Need-returns-16
-returns-16 c = rw (c .before .enum-told16 .given .1) (c .kind3 .ensures ∙ kind-field (c .before .before .before .args .said) (c .before .before .before .args .value))
+returns-16 c =
+    let asked = c .before .before .before .args in
+    rw (c .before .enum-told16 .given .1) (c .kind3 .ensures ∙ kind-field (asked .said) (asked .value))
 
 returns-17 : tie.Need-returns-17
 returns-17 c = rw (c .enum-told17 .given .1, six-bits (c .before .before .args .value))

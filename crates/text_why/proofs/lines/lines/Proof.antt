@@ -1,6 +1,6 @@
 -- `text_why::lines::lines`: by the reason.
 -- Assumes nothing.
-use Rattle.text.proofs.Rooms.{behind, nothing}
+use Rattle.text.proofs.Rooms.{behind}
 use Rattle.text_why.proofs.Explains.{accepted-line, byte-lines, pair-lines, size-lines}
 use borrow.Author.Needs.{needs}
 use Rattle.text_why.proofs.lines.lines.Statement.{statement}
@@ -18,8 +18,8 @@ line-requires c κs = search needs
 enum-known-reason : tie.Need-enum-known-reason
 enum-known-reason c = search needs
 
-of-size-requires : tie.Need-of-size-requires
-of-size-requires c κs = search needs
+size-words-requires : tie.Need-size-words-requires
+size-words-requires c κs = search needs
 
 details-requires : tie.Need-details-requires
 details-requires c κs = search needs
@@ -27,8 +27,8 @@ details-requires c κs = search needs
 enum-known-reason-2 : tie.Need-enum-known-reason-2
 enum-known-reason-2 c = search needs
 
-of-pair-requires : tie.Need-of-pair-requires
-of-pair-requires c κs = search needs
+pair-words-requires : tie.Need-pair-words-requires
+pair-words-requires c κs = search needs
 
 details-requires-2 : tie.Need-details-requires-2
 details-requires-2 c κs = search needs
@@ -36,8 +36,8 @@ details-requires-2 c κs = search needs
 enum-known-reason-3 : tie.Need-enum-known-reason-3
 enum-known-reason-3 c = search needs
 
-of-byte-requires : tie.Need-of-byte-requires
-of-byte-requires c κs = search needs
+byte-words-requires : tie.Need-byte-words-requires
+byte-words-requires c κs = search needs
 
 details-requires-3 : tie.Need-details-requires-3
 details-requires-3 c κs = search needs
@@ -61,7 +61,7 @@ returns-2 c =
     let said = put .before .before .before .before in
     let told = said .before .before .before in
     let start = told .before .before .before .before in
-    rw (size-lines (start .args .packet .now) (start .args .why) _ (told .reason .given .1)) (behind (said .of-size .ensures) (put .details .ensures))
+    rw (size-lines (start .args .packet .now) (start .args .why) _ (told .reason .given .1)) (behind (said .size-words .ensures) (put .details .ensures))
 
 same-length-3 : tie.Need-same-length-3
 same-length-3 c = search needs
@@ -72,7 +72,7 @@ returns-3 c =
     let said = put .before .before .before .before in
     let told = said .before .before .before in
     let start = told .before .before .before .before in
-    rw (pair-lines (start .args .packet .now) (start .args .why) _ (told .reason2 .given .1)) (behind (said .of-pair .ensures) (put .details2 .ensures))
+    rw (pair-lines (start .args .packet .now) (start .args .why) _ (told .reason2 .given .1)) (behind (said .pair-words .ensures) (put .details2 .ensures))
 
 same-length-4 : tie.Need-same-length-4
 same-length-4 c = search needs
@@ -83,7 +83,7 @@ returns-4 c =
     let said = put .before .before .before .before in
     let told = said .before .before .before in
     let start = told .before .before .before .before in
-    rw (byte-lines (start .args .packet .now) (start .args .why) _ (told .reason3 .given .1)) (behind (said .of-byte .ensures) (put .details3 .ensures))
+    rw (byte-lines (start .args .packet .now) (start .args .why) _ (told .reason3 .given .1)) (behind (said .byte-words .ensures) (put .details3 .ensures))
 
 pub lines-spec : {M : Type 1} → statement M
 lines-spec =
@@ -93,13 +93,13 @@ lines-spec =
     slice-aggregate-line
     line-requires
     enum-known-reason
-    of-size-requires
+    size-words-requires
     details-requires
     enum-known-reason-2
-    of-pair-requires
+    pair-words-requires
     details-requires-2
     enum-known-reason-3
-    of-byte-requires
+    byte-words-requires
     details-requires-3
     same-length
     returns

@@ -1,54 +1,28 @@
--- `text_words::pair_words`: the words of each test of two bytes.
+-- `text_words::pair_words`: that it is refused, and what is said of the test.
 -- Assumes nothing.
+use Rattle.text.proofs.Rooms.{behind}
 use borrow.Author.Needs.{needs}
 use Rattle.text_words.proofs.words.pair_words.Statement.{statement}
 use Rattle.text_words.proofs.words.pair_words.Tie as tie
 
-enum-told : tie.Need-enum-told
-enum-told c = search needs
+slice-aggregate-word : tie.Need-slice-aggregate-word
+slice-aggregate-word c = search needs
 
-slice-aggregate-line : tie.Need-slice-aggregate-line
-slice-aggregate-line c = search needs
+word-requires : tie.Need-word-requires
+word-requires c κs = search needs
 
-line-requires : tie.Need-line-requires
-line-requires c κs = search needs
-
-enum-told-2 : tie.Need-enum-told-2
-enum-told-2 c = search needs
-
-slice-aggregate-line-2 : tie.Need-slice-aggregate-line-2
-slice-aggregate-line-2 c = search needs
-
-line-requires-2 : tie.Need-line-requires-2
-line-requires-2 c κs = search needs
+of-pair-requires : tie.Need-of-pair-requires
+of-pair-requires c κs = search needs
 
 same-length : tie.Need-same-length
 same-length c = search needs
 
 returns : tie.Need-returns
 returns c =
-    let put = c .before .before in
-    rw (put .before .before .before .enum-told .given .1) (put .line .ensures)
-
-same-length-2 : tie.Need-same-length-2
-same-length-2 c = search needs
-
-returns-2 : tie.Need-returns-2
-returns-2 c =
-    let put = c .before .before in
-    rw (put .before .before .before .enum-told2 .given .1) (put .line2 .ensures)
+    let said = c .before .before in
+    let refused = said .before .before .before .before in
+    behind (refused .word .ensures) (said .of-pair .ensures)
 
 pub pair-words-spec : {M : Type 1} → statement M
 pair-words-spec =
-    tie.close
-    (tie.spec
-    enum-told
-    slice-aggregate-line
-    line-requires
-    enum-told-2
-    slice-aggregate-line-2
-    line-requires-2
-    same-length
-    returns
-    same-length-2
-    returns-2)
+    tie.close (tie.spec slice-aggregate-word word-requires of-pair-requires same-length returns)

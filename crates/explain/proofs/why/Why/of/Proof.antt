@@ -1,10 +1,8 @@
 -- `explain::Why::of`: what the reader's tests give, and the test that these leave.
 -- Assumes nothing.
-use mathlib.Core.Path.{_≡_, _∙_, sym, ap}
+use mathlib.Core.Path.{_∙_, sym}
 use borrow.Author.Needs.{needs}
-use borrow.Author.Tests.{not-true}
 use denote.Ref.{now}
-use lib.Dec.{eqb}
 use Rattle.explain.proofs.Explained.{accepted-told, place-inside, refused-told}
 use Rattle.explain.proofs.why.Why.of.Statement.{statement}
 use Rattle.explain.proofs.why.Why.of.Tie as tie
@@ -30,7 +28,8 @@ test-of-requires c κs = search needs
 
 reason-for-requires : tie.Need-reason-for-requires
 reason-for-requires c κs =
-    rw (checked (c .before .before) .parse .ensures) (place-inside (c .before .before .before .before .before .before .args .packet .now))
+    rw (checked (c .before .before) .parse .ensures)
+    (place-inside (c .before .before .before .before .before .before .args .packet .now))
 
 returns-2 : tie.Need-returns-2
 returns-2 c =
