@@ -96,7 +96,7 @@ pairRow Magic = record { rule = 2; first = λ p. 0x96; second = λ p. 0x69 }
 pairRow FooterSequence = record { rule = 9; first = λ p. byte p 5; second = λ p. byte p 6 }
 
 -- Tests of one byte: the rule; what the packet says, for a place, that the byte there is compared with; what is asked of a
--- value, compared with that; and the other tests of the same byte's fixed bits and value
+-- value, compared with that; and what else that byte is tested for by itself
 pub record ByteRow : Type 0 where
   pub rule : ℕ
   pub says : List ℕ → ℕ → ℕ
@@ -114,8 +114,8 @@ comparedWith rule says asked others = record { rule = rule; says = says; asked =
 abbrev pub numberWanted : List ℕ → ℕ → ℕ
 numberWanted p place = numberOf (entryOf (sixBehind p place) .service)
 
--- 7.4: the six upper bits of byte 4. 80, 40 and 20 are as they are, since with others another packet would be read; then come
--- the section's start, change and complete
+-- 7.4: the six upper bits of byte 4: first 80, 40 and 20, which the packet keeps, for they say which sections are read; then
+-- start, change and complete, which are the section's
 abbrev pub flagsWanted : List ℕ → ℕ
 flagsWanted p = under xE0 (byte p 4) * 8 + under x70 (byte p (servicesAt p + 1))
 

@@ -8,7 +8,7 @@ use explain::Reason;
 use explain::Why;
 use text_why::rule_of;
 
-// No reader is asked, and the tape's own stays as it is.
+// The tape's reader stays as it is.
 pub fn packet(packet: &[u8], out: &mut [u8], at: usize) -> usize {
     let why = Why::of(packet);
     let answer = why.answer;
