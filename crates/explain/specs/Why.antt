@@ -7,7 +7,7 @@ use Rattle.basis.specs.declared.test.PairTest.{PairTest}
 use Rattle.basis.specs.declared.test.Test.{Test}
 use Rattle.basis.specs.declared.test.Test.the-variants.{Byte, Pair, Size}
 use Rattle.read_packet.specs.Packet.{captionsLength, packetChecks}
-use Rattle.explain_tests.specs.Tests.{byteRow, pairRow}
+use Rattle.explain_tests.specs.Tests.{byteRow, pairRow, ruleOf}
 use Rattle.explain.specs.declared.why.FailedPair.{FailedPair}
 use Rattle.explain.specs.declared.why.Reason.{Reason}
 use Rattle.explain.specs.declared.why.Reason.the-variants.{Accepted, OfByte, OfPair, OfSize}
@@ -23,6 +23,13 @@ abbrev pub reasonFor : List ℕ → Test → ℕ → ℕ → Reason
 reasonFor p (Size test) place size = OfSize (record { test = test; bytes = size })
 reasonFor p (Pair test) place size = OfPair (failedPair p test)
 reasonFor p (Byte test) place size = OfByte (record { test = test; said = byteRow test .says p place })
+
+-- the number of the rule that makes the test, 0 where nothing is refused
+abbrev pub reasonRule : Reason → ℕ
+reasonRule Accepted = 0
+reasonRule (OfSize failed) = ruleOf (Size (failed .test))
+reasonRule (OfPair failed) = ruleOf (Pair (failed .test))
+reasonRule (OfByte failed) = ruleOf (Byte (failed .test))
 
 -- nothing is named of a packet that is accepted
 abbrev pub reasonOf : List ℕ → Verdict → Reason

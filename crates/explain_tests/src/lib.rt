@@ -2,7 +2,5 @@
 mod rule;
 mod taken;
 
-pub use rule::byte_rule;
-pub use rule::pair_rule;
-pub use rule::size_rule;
+pub use rule::rule_of;
 pub use taken::takes;

@@ -1,11 +1,22 @@
 // The rule that a test belongs to. What a section or an entry is refused for, in a packet, is rule 7.
 ghost use mathlib.Core.Path.{_≡_};
-ghost use Rattle.explain_tests.specs.Tests.{byteRow, pairRow, sizeRow};
+ghost use Rattle.explain_tests.specs.Tests.{byteRow, pairRow, ruleOf, sizeRow};
 use basis::ByteTest;
 use basis::PairTest;
 use basis::SizeTest;
+use basis::Test;
 
-pub fn size_rule(test: SizeTest) -> u8
+pub fn rule_of(test: Test) -> u8
+    ensures { λ r. ⌜ r ≡ ruleOf test ⌝ }
+{
+    match test {
+        Test::Size(of_size) => size_rule(of_size),
+        Test::Pair(of_pair) => pair_rule(of_pair),
+        Test::Byte(of_byte) => byte_rule(of_byte),
+    }
+}
+
+fn size_rule(test: SizeTest) -> u8
     ensures { λ r. ⌜ r ≡ sizeRow test .rule ⌝ }
 {
     match test {
@@ -26,7 +37,7 @@ pub fn size_rule(test: SizeTest) -> u8
     }
 }
 
-pub fn pair_rule(test: PairTest) -> u8
+fn pair_rule(test: PairTest) -> u8
     ensures { λ r. ⌜ r ≡ pairRow test .rule ⌝ }
 {
     match test {
@@ -35,7 +46,7 @@ pub fn pair_rule(test: PairTest) -> u8
     }
 }
 
-pub fn byte_rule(test: ByteTest) -> u8
+fn byte_rule(test: ByteTest) -> u8
     ensures { λ r. ⌜ r ≡ byteRow test .rule ⌝ }
 {
     match test {

@@ -60,12 +60,12 @@ fn two(out: &mut [u8], at: usize, shown: u8) -> usize {
 
 // The bytes that a test found: two at most, and a space.
 pub fn found(out: &mut [u8], at: usize, packet: &[u8], place: usize, reason: Reason) -> usize {
-    text_why::found(out, room(out, at, 5), packet, place, reason)
+    text_values::found(out, room(out, at, 5), packet, place, reason)
 }
 
 // What a test takes.
 pub fn allowed(out: &mut [u8], at: usize, reason: Reason) -> usize {
-    text_why::allowed(out, room(out, at, WhyText::MOST_ALLOWED), reason)
+    text_values::allowed(out, room(out, at, WhyText::MOST_ALLOWED), reason)
 }
 
 // Writes the buffer out where fewer than so many bytes are left, so that what is put next is not cut.

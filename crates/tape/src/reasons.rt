@@ -6,7 +6,7 @@ use crate::show;
 use basis::Answer;
 use explain::Reason;
 use explain::Why;
-use text_why::rule_of;
+use explain::reason_rule;
 
 // The tape's reader stays as it is.
 pub fn packet(packet: &[u8], out: &mut [u8], at: usize) -> usize {
@@ -28,7 +28,7 @@ fn refused(packet: &[u8], why: Why, out: &mut [u8], at: usize) -> usize {
 
 fn rule(out: &mut [u8], at: usize, reason: Reason) -> usize {
     let named = word(out, at, b"Y rule ");
-    decimal(out, named, rule_of(reason) as u64)
+    decimal(out, named, reason_rule(reason) as u64)
 }
 
 fn answered(out: &mut [u8], at: usize, answer: Answer, place: usize) -> usize {

@@ -9,29 +9,19 @@ use lib.Dec.{leb, lit≤}
 use lib.ListN.{length, length-append}
 use Rattle.basis.specs.Bytes.{byte}
 use Rattle.explain_tests.specs.Tests.{sizeRow, takes}
-use Rattle.explain.specs.Why.{whyOf}
+use Rattle.explain.specs.Why.{reasonRule, whyOf}
 use Rattle.text.proofs.Decimals.{decimal-most}
 use Rattle.text.proofs.Sizes.{answer-most, hex-size}
 use Rattle.text.specs.Ascii.{ascii}
 use Rattle.text.specs.Lines.{linesText}
 use Rattle.text.specs.Whole.{mostInput}
-use Rattle.text_words.proofs.WordsMost.{byte-words-most, pair-words-most, size-words-most}
-use Rattle.text_words.specs.Words.{byteWords, pairWords, sizeWords}
-use Rattle.text_why.specs.Explained.{
-  allowedText,
-  detailLines,
-  foundText,
-  linesFor,
-  reasonRule,
-  refusalLines,
-  sizeText,
-  twoBytes,
-  whyLines,
-  whyMostAllowed,
-  whyMostText,
-  whyText,
-}
-use Rattle.text_runs.proofs.RunsTaken.{runs-most}
+use Rattle.text_words.proofs.WordsMost.{words-most}
+use Rattle.text_words.specs.Words.{testWords}
+use Rattle.basis.specs.declared.test.Test.{Test}
+use Rattle.basis.specs.declared.test.Test.the-variants.{Byte, Pair, Size}
+use Rattle.text_why.specs.Explained.{detailLines, linesFor, refusalLines, whyLines, whyMostText, whyText}
+use Rattle.text_values.specs.Values.{allowedText, foundText, sizeText, twoBytes, whyMostAllowed}
+use Rattle.text_values.proofs.RunsTaken.{runs-most}
 use Rattle.explain.specs.declared.why.FailedSize.{FailedSize}
 use Rattle.explain.specs.declared.why.Reason.{Reason}
 use Rattle.explain.specs.declared.why.Reason.the-variants.{Accepted, OfByte, OfPair, OfSize}
@@ -71,21 +61,22 @@ details-most p w =
       allowed-most (w .reason),
     ))
 
-refusal-most : (p : List ℕ) (w : Why) (words : List ℕ) → length words ≤ 72
-    → length (linesText (refusalLines p w words)) ≤ whyMostText
-refusal-most p w words h =
+refusal-most : (p : List ℕ) (w : Why) (test : Test) → length (linesText (refusalLines p w test)) ≤ whyMostText
+refusal-most p w test =
+    let words : List ℕ = testWords test in
     omega (
       arith,
       details-most p w,
+      words-most test,
       length-append words (ascii "\n"),
       length-append (words ++ ascii "\n") (linesText (detailLines p w)),
     )
 
 lines-most : (p : List ℕ) (w : Why) (reason : Reason) → length (linesText (linesFor p w reason)) ≤ whyMostText
 lines-most p w Accepted = lit≤ tt
-lines-most p w (OfSize failed) = refusal-most p w (sizeWords (failed .test)) (size-words-most (failed .test))
-lines-most p w (OfPair failed) = refusal-most p w (pairWords (failed .test)) (pair-words-most (failed .test))
-lines-most p w (OfByte failed) = refusal-most p w (byteWords (failed .test)) (byte-words-most (failed .test))
+lines-most p w (OfSize failed) = refusal-most p w (Size (failed .test))
+lines-most p w (OfPair failed) = refusal-most p w (Pair (failed .test))
+lines-most p w (OfByte failed) = refusal-most p w (Byte (failed .test))
 
 input-cases : (p : List ℕ) (short : Bool) → leb (length p) mostInput ≡ short → length (whyText p) ≤ whyMostText
 unfolding whyText whyLines

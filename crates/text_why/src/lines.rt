@@ -4,18 +4,19 @@ ghost use Rattle.text.specs.Ascii.{ascii};
 ghost use Rattle.text.specs.Digits.{numberAfter};
 ghost use Rattle.text.specs.Lines.{lineText, linesText};
 ghost use Rattle.text.specs.Room.{PutInRoom};
+ghost use Rattle.explain.specs.Why.{reasonRule};
+ghost use Rattle.text_values.specs.Values as Values;
 ghost use Rattle.text_why.specs.Explained as Explained;
-use crate::bytes::found;
-use crate::limits::allowed;
-use crate::rule::rule_of;
+use basis::Test;
 use explain::Reason;
 use explain::Why;
+use explain::reason_rule;
 use text::line;
 use text::number;
 use text::word;
-use text_words::byte_words;
-use text_words::pair_words;
-use text_words::size_words;
+use text_values::allowed;
+use text_values::found;
+use text_words::refused;
 
 // One line for a packet that is accepted; for a refusal what is said of its test, and five more.
 pub(crate) fn lines(out: &mut [u8], at: usize, packet: &[u8], why: Why) -> usize
@@ -26,17 +27,17 @@ pub(crate) fn lines(out: &mut [u8], at: usize, packet: &[u8], why: Why) -> usize
         Reason::Accepted => line(out, at, b"accepted"),
         Reason::OfSize(failed) => {
             let test = failed.test;
-            let said = size_words(out, at, test);
+            let said = refused(out, at, Test::Size(test));
             details(out, said, packet, why)
         }
         Reason::OfPair(failed) => {
             let test = failed.test;
-            let said = pair_words(out, at, test);
+            let said = refused(out, at, Test::Pair(test));
             details(out, said, packet, why)
         }
         Reason::OfByte(failed) => {
             let test = failed.test;
-            let said = byte_words(out, at, test);
+            let said = refused(out, at, Test::Byte(test));
             details(out, said, packet, why)
         }
     }
@@ -56,9 +57,9 @@ fn details(out: &mut [u8], at: usize, packet: &[u8], why: Why) -> usize
 }
 
 fn rule_line(out: &mut [u8], at: usize, reason: Reason) -> usize
-    ensures { λ r. ⌜ PutInRoom at (lineText (numberAfter "rule " (Explained.reasonRule reason))) (now (out .entry)) r (now (out .exit)) ⌝ }
+    ensures { λ r. ⌜ PutInRoom at (lineText (numberAfter "rule " (reasonRule reason))) (now (out .entry)) r (now (out .exit)) ⌝ }
 {
-    let rule = rule_of(reason);
+    let rule = reason_rule(reason);
     let named = number(out, at, b"rule ", rule as u64);
     line(out, named, b"")
 }
@@ -71,7 +72,7 @@ fn place_line(out: &mut [u8], at: usize, place: usize) -> usize
 }
 
 fn found_line(out: &mut [u8], at: usize, packet: &[u8], place: usize, reason: Reason) -> usize
-    ensures { λ r. ⌜ PutInRoom at (lineText (ascii "found " ++ Explained.foundText (now (packet .entry)) place reason)) (now (out .entry)) r (now (out .exit)) ⌝ }
+    ensures { λ r. ⌜ PutInRoom at (lineText (ascii "found " ++ Values.foundText (now (packet .entry)) place reason)) (now (out .entry)) r (now (out .exit)) ⌝ }
 {
     let named = word(out, at, b"found ");
     let told = found(out, named, packet, place, reason);
@@ -79,7 +80,7 @@ fn found_line(out: &mut [u8], at: usize, packet: &[u8], place: usize, reason: Re
 }
 
 fn allowed_line(out: &mut [u8], at: usize, reason: Reason) -> usize
-    ensures { λ r. ⌜ PutInRoom at (lineText (ascii "allowed " ++ Explained.allowedText reason)) (now (out .entry)) r (now (out .exit)) ⌝ }
+    ensures { λ r. ⌜ PutInRoom at (lineText (ascii "allowed " ++ Values.allowedText reason)) (now (out .entry)) r (now (out .exit)) ⌝ }
 {
     let named = word(out, at, b"allowed ");
     let told = allowed(out, named, reason);

@@ -3,7 +3,9 @@
 use Prim.Native.Nat.{_≤_}
 use lib.Dec.{lit≤}
 use lib.ListN.{length}
-use Rattle.text_words.specs.Words.{byteWords, pairWords, sizeWords}
+use Rattle.text_words.specs.Words.{byteWords, pairWords, sizeWords, testWords}
+use Rattle.basis.specs.declared.test.Test.{Test}
+use Rattle.basis.specs.declared.test.Test.the-variants.{Byte, Pair, Size}
 use Rattle.basis.specs.declared.test.ByteTest.{ByteTest}
 use Rattle.basis.specs.declared.test.ByteTest.the-variants.{
   CaptionsFixed,
@@ -48,7 +50,7 @@ use Rattle.basis.specs.declared.test.SizeTest.the-variants.{
   TimeWhole,
 }
 
-pub size-words-most : (test : SizeTest) → length (sizeWords test) ≤ 72
+size-words-most : (test : SizeTest) → length (sizeWords test) ≤ 72
 size-words-most CaptionRoom = lit≤ tt
 size-words-most PacketLeast = lit≤ tt
 size-words-most PacketSize = lit≤ tt
@@ -64,11 +66,11 @@ size-words-most FutureWhole = lit≤ tt
 size-words-most FutureNext = lit≤ tt
 size-words-most FooterWhole = lit≤ tt
 
-pub pair-words-most : (test : PairTest) → length (pairWords test) ≤ 72
+pair-words-most : (test : PairTest) → length (pairWords test) ≤ 72
 pair-words-most Magic = lit≤ tt
 pair-words-most FooterSequence = lit≤ tt
 
-pub byte-words-most : (test : ByteTest) → length (byteWords test) ≤ 72
+byte-words-most : (test : ByteTest) → length (byteWords test) ≤ 72
 byte-words-most Rate = lit≤ tt
 byte-words-most TimeId = lit≤ tt
 byte-words-most Hours = lit≤ tt
@@ -90,3 +92,8 @@ byte-words-most HeaderNumber = lit≤ tt
 byte-words-most ServicesFlags = lit≤ tt
 byte-words-most FutureId = lit≤ tt
 byte-words-most Checksum = lit≤ tt
+
+pub words-most : (test : Test) → length (testWords test) ≤ 72
+words-most (Size test) = size-words-most test
+words-most (Pair test) = pair-words-most test
+words-most (Byte test) = byte-words-most test

@@ -1,6 +1,8 @@
 -- What is said of each test that a packet fails, in the order of the tests.
 use mathlib.Core.List.{List, _++_}
 use Prim.Native.Nat.{ℕ}
+use Rattle.basis.specs.declared.test.Test.{Test}
+use Rattle.basis.specs.declared.test.Test.the-variants.{Byte, Pair, Size}
 use Rattle.text.specs.Ascii.{ascii}
 use Rattle.text.specs.Lines.{Line}
 use Rattle.basis.specs.declared.test.ByteTest.{ByteTest}
@@ -47,10 +49,6 @@ use Rattle.basis.specs.declared.test.SizeTest.the-variants.{
   TimeWhole,
 }
 
--- the line that says it
-abbrev pub refusedLine : List ℕ → Line
-refusedLine words = ascii "refused: " ++ words
-
 abbrev pub sizeWords : SizeTest → List ℕ
 sizeWords CaptionRoom = ascii "the buffer for captions has fewer than 95 bytes"
 sizeWords PacketLeast = ascii "the packet has fewer than 11 bytes"
@@ -93,3 +91,12 @@ byteWords HeaderNumber = ascii "the byte in front of a service names another num
 byteWords ServicesFlags = ascii "header and service list differ in start, change or complete"
 byteWords FutureId = ascii "a byte that has to begin a section or the footer begins neither"
 byteWords Checksum = ascii "the checksum byte is not the one that the packet's bytes give"
+
+abbrev pub testWords : Test → List ℕ
+testWords (Size test) = sizeWords test
+testWords (Pair test) = pairWords test
+testWords (Byte test) = byteWords test
+
+-- the first line of a refusal
+abbrev pub refusedLine : Test → Line
+refusedLine test = ascii "refused: " ++ testWords test

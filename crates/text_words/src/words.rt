@@ -1,32 +1,29 @@
 // Puts what is said of a test, as the line of a refusal.
 ghost use Rattle.text.specs.Lines.{lineText};
 ghost use Rattle.text.specs.Room.{PutInRoom};
-ghost use Rattle.text_words.specs.Words.{byteWords, pairWords, refusedLine, sizeWords};
+ghost use Rattle.text_words.specs.Words.{byteWords, pairWords, refusedLine, sizeWords, testWords};
 use basis::ByteTest;
 use basis::PairTest;
 use basis::SizeTest;
+use basis::Test;
 use text::line;
 use text::word;
 
-pub fn size_words(out: &mut [u8], at: usize, test: SizeTest) -> usize
-    ensures { λ r. ⌜ PutInRoom at (lineText (refusedLine (sizeWords test))) (now (out .entry)) r (now (out .exit)) ⌝ }
+pub fn refused(out: &mut [u8], at: usize, test: Test) -> usize
+    ensures { λ r. ⌜ PutInRoom at (lineText (refusedLine test)) (now (out .entry)) r (now (out .exit)) ⌝ }
 {
-    let refused = word(out, at, b"refused: ");
-    of_size(out, refused, test)
+    let named = word(out, at, b"refused: ");
+    words(out, named, test)
 }
 
-pub fn pair_words(out: &mut [u8], at: usize, test: PairTest) -> usize
-    ensures { λ r. ⌜ PutInRoom at (lineText (refusedLine (pairWords test))) (now (out .entry)) r (now (out .exit)) ⌝ }
+fn words(out: &mut [u8], at: usize, test: Test) -> usize
+    ensures { λ r. ⌜ PutInRoom at (lineText (testWords test)) (now (out .entry)) r (now (out .exit)) ⌝ }
 {
-    let refused = word(out, at, b"refused: ");
-    of_pair(out, refused, test)
-}
-
-pub fn byte_words(out: &mut [u8], at: usize, test: ByteTest) -> usize
-    ensures { λ r. ⌜ PutInRoom at (lineText (refusedLine (byteWords test))) (now (out .entry)) r (now (out .exit)) ⌝ }
-{
-    let refused = word(out, at, b"refused: ");
-    of_byte(out, refused, test)
+    match test {
+        Test::Size(size) => of_size(out, at, size),
+        Test::Pair(pair) => of_pair(out, at, pair),
+        Test::Byte(byte) => of_byte(out, at, byte),
+    }
 }
 
 fn of_size(out: &mut [u8], at: usize, test: SizeTest) -> usize

@@ -16,8 +16,8 @@ use Rattle.text.specs.Ascii.{ascii}
 use Rattle.text.specs.Digits.{decimalText, hexText}
 use Rattle.text.specs.Lines.{linesText}
 use Rattle.text.specs.Whole.{mostInput}
-use Rattle.text_why.specs.Explained.{refusalLines, testWords, whyLines, whyText}
-use Rattle.text_runs.specs.Runs.{runText, runsOf, scanned}
+use Rattle.text_why.specs.Explained.{refusalLines, whyLines, whyText}
+use Rattle.text_values.specs.Runs.{runText, runsOf, scanned}
 use Rattle.text_why.proofs.Explains.{byte-lines, pair-lines, size-lines}
 use Rattle.values.specs.Rate.{fromId}
 use Rattle.basis.specs.declared.test.Test.{Test}
@@ -30,7 +30,7 @@ unfolding whyOf
 reason-is p rule fails = ap (reasonOf p) fails
 
 refused-lines : (p : List ℕ) (rule : Rule) (test : Test) → rule .at .test ≡ test → verdict (packetChecks p) ≡ broken rule
-    → whyLines p (whyOf p) ≡ refusalLines p (whyOf p) (testWords test)
+    → whyLines p (whyOf p) ≡ refusalLines p (whyOf p) test
 refused-lines p rule (Size test) e fails = size-lines p (whyOf p) _ (rw e at (reason-is p rule fails))
 refused-lines p rule (Pair test) e fails = pair-lines p (whyOf p) _ (rw e at (reason-is p rule fails))
 refused-lines p rule (Byte test) e fails = byte-lines p (whyOf p) _ (rw e at (reason-is p rule fails))
@@ -45,7 +45,7 @@ module _ (p : List ℕ) (short : length p ≤ mostInput) where
   accepted-text kept = lines-text ∙ rw kept
 
   pub refused-text : (rule : Rule) → verdict (packetChecks p) ≡ broken rule
-      → whyText p ≡ linesText (refusalLines p (whyOf p) (testWords (rule .at .test)))
+      → whyText p ≡ linesText (refusalLines p (whyOf p) (rule .at .test))
   refused-text rule fails = lines-text ∙ ap linesText (refused-lines p rule (rule .at .test) refl fails)
 
 pub too-long : (input : List ℕ) → mostInput < length input → whyText input ≡ ascii "input too long\n"

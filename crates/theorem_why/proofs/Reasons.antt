@@ -27,14 +27,14 @@ use Rattle.read_packet.specs.Packet.{captionsLength, footerAt, packetChecks}
 use Rattle.reader.specs.Reader.{read, readChecks}
 use Rattle.reader.specs.declared.parser.CDPParser.{CDPParser}
 use Rattle.explain_tests.specs.Tests.{ruleOf, takes}
-use Rattle.explain.specs.Why.{reasonFor, reasonOf, whyOf}
+use Rattle.explain.specs.Why.{reasonFor, reasonOf, reasonRule, whyOf}
 use Rattle.explain.specs.declared.why.Reason.the-variants.{Accepted}
 use Rattle.explain_find.proofs.TestsFound.{test-found}
 use Rattle.explain_find.specs.Code.{testFrom}
 use Rattle.text.specs.Digits.{hexText}
-use Rattle.text_runs.proofs.RunsTaken.{runs-apart, runs-taken}
-use Rattle.text_why.specs.Explained.{allowedText, foundText, reasonRule}
-use Rattle.text_runs.specs.Runs.{Run, runText, runsOf, runsSoFar, runsText, scanned}
+use Rattle.text_values.proofs.RunsTaken.{runs-apart, runs-taken}
+use Rattle.text_values.specs.Values.{allowedText, foundText}
+use Rattle.text_values.specs.Runs.{Run, runText, runsOf, runsSoFar, runsText, scanned}
 use Rattle.theorem_why.proofs.ChecksumPut.{checksum-put}
 use Rattle.theorem_why.proofs.EveryTabled.{every-tabled}
 use Rattle.theorem_why.proofs.FailedTest.{byte-fails, pair-fails, size-answers, size-fails}

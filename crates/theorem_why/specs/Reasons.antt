@@ -24,25 +24,16 @@ use Rattle.read_packet.specs.Packet.{footerAt, packetChecks, servicesAt}
 use Rattle.reader.specs.Reader.{read}
 use Rattle.reader.specs.declared.parser.CDPParser.{CDPParser}
 use Rattle.explain_tests.specs.Tests.{allAsk, asks, byteRow, flagsWanted, pairRow, ruleOf, takes}
-use Rattle.explain.specs.Why.{reasonFor, whyOf}
+use Rattle.explain.specs.Why.{reasonFor, reasonRule, whyOf}
 use Rattle.explain.specs.declared.why.Reason.{Reason}
 use Rattle.explain.specs.declared.why.Reason.the-variants.{Accepted, OfByte, OfPair, OfSize}
 use Rattle.text.specs.Ascii.{ascii}
 use Rattle.text.specs.Digits.{hexText}
 use Rattle.text.specs.Lines.{linesText}
 use Rattle.text.specs.Whole.{mostInput}
-use Rattle.text_why.specs.Explained.{
-  allowedText,
-  foundText,
-  reasonRule,
-  refusalLines,
-  sizeText,
-  testWords,
-  twoBytes,
-  whyMostText,
-  whyText,
-}
-use Rattle.text_runs.specs.Runs.{Apart, among, runsOf, runsText}
+use Rattle.text_why.specs.Explained.{refusalLines, whyMostText, whyText}
+use Rattle.text_values.specs.Values.{allowedText, foundText, sizeText, twoBytes}
+use Rattle.text_values.specs.Runs.{Apart, among, runsOf, runsText}
 use Rattle.theorem_why.specs.AsTable.{AsTable, EachByte, Every, pairAsks, sizeAsks}
 use Rattle.theorem_why.specs.Rules.{RuleBroken, RuleKept, oneByOne, rulesInOrder}
 
@@ -123,7 +114,7 @@ pub record OfRefused (p : List ℕ) (rule : Rule) : Type 0 where
       → whyOf (set p (length p - 1) (checksumOf p)) .reason ≡ Accepted
   -- the text: six lines, the first of them with what is said of the test
   pub refusedText : length p ≤ mostInput
-      → whyText p ≡ linesText (refusalLines p (whyOf p) (testWords (rule .at .test)))
+      → whyText p ≡ linesText (refusalLines p (whyOf p) (rule .at .test))
 
 pub record Reasons : Type 0 where
   pub ofPacket : (p : List ℕ) → OfPacket p

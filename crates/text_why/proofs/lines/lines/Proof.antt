@@ -18,8 +18,8 @@ line-requires c κs = search needs
 enum-known-reason : tie.Need-enum-known-reason
 enum-known-reason c = search needs
 
-size-words-requires : tie.Need-size-words-requires
-size-words-requires c κs = search needs
+refused-requires : tie.Need-refused-requires
+refused-requires c κs = search needs
 
 details-requires : tie.Need-details-requires
 details-requires c κs = search needs
@@ -27,8 +27,8 @@ details-requires c κs = search needs
 enum-known-reason-2 : tie.Need-enum-known-reason-2
 enum-known-reason-2 c = search needs
 
-pair-words-requires : tie.Need-pair-words-requires
-pair-words-requires c κs = search needs
+refused-requires-2 : tie.Need-refused-requires-2
+refused-requires-2 c κs = search needs
 
 details-requires-2 : tie.Need-details-requires-2
 details-requires-2 c κs = search needs
@@ -36,8 +36,8 @@ details-requires-2 c κs = search needs
 enum-known-reason-3 : tie.Need-enum-known-reason-3
 enum-known-reason-3 c = search needs
 
-byte-words-requires : tie.Need-byte-words-requires
-byte-words-requires c κs = search needs
+refused-requires-3 : tie.Need-refused-requires-3
+refused-requires-3 c κs = search needs
 
 details-requires-3 : tie.Need-details-requires-3
 details-requires-3 c κs = search needs
@@ -61,7 +61,7 @@ returns-2 c =
     let said = put .before .before .before .before in
     let told = said .before .before .before in
     let start = told .before .before .before .before in
-    rw (size-lines (start .args .packet .now) (start .args .why) _ (told .reason .given .1)) (behind (said .size-words .ensures) (put .details .ensures))
+    rw (size-lines (start .args .packet .now) (start .args .why) _ (told .reason .given .1)) (behind (said .refused .ensures) (put .details .ensures))
 
 same-length-3 : tie.Need-same-length-3
 same-length-3 c = search needs
@@ -72,7 +72,7 @@ returns-3 c =
     let said = put .before .before .before .before in
     let told = said .before .before .before in
     let start = told .before .before .before .before in
-    rw (pair-lines (start .args .packet .now) (start .args .why) _ (told .reason2 .given .1)) (behind (said .pair-words .ensures) (put .details2 .ensures))
+    rw (pair-lines (start .args .packet .now) (start .args .why) _ (told .reason2 .given .1)) (behind (said .refused2 .ensures) (put .details2 .ensures))
 
 same-length-4 : tie.Need-same-length-4
 same-length-4 c = search needs
@@ -83,7 +83,7 @@ returns-4 c =
     let said = put .before .before .before .before in
     let told = said .before .before .before in
     let start = told .before .before .before .before in
-    rw (byte-lines (start .args .packet .now) (start .args .why) _ (told .reason3 .given .1)) (behind (said .byte-words .ensures) (put .details3 .ensures))
+    rw (byte-lines (start .args .packet .now) (start .args .why) _ (told .reason3 .given .1)) (behind (said .refused3 .ensures) (put .details3 .ensures))
 
 pub lines-spec : {M : Type 1} → statement M
 lines-spec =
@@ -93,13 +93,13 @@ lines-spec =
     slice-aggregate-line
     line-requires
     enum-known-reason
-    size-words-requires
+    refused-requires
     details-requires
     enum-known-reason-2
-    pair-words-requires
+    refused-requires-2
     details-requires-2
     enum-known-reason-3
-    byte-words-requires
+    refused-requires-3
     details-requires-3
     same-length
     returns

@@ -5,8 +5,8 @@ use borrow.Author.Needs.{needs}
 use Rattle.text_why.proofs.lines.rule_line.Statement.{statement}
 use Rattle.text_why.proofs.lines.rule_line.Tie as tie
 
-rule-of-requires : tie.Need-rule-of-requires
-rule-of-requires c κs = search needs
+reason-rule-requires : tie.Need-reason-rule-requires
+reason-rule-requires c κs = search needs
 
 slice-aggregate-number : tie.Need-slice-aggregate-number
 slice-aggregate-number c = search needs
@@ -31,14 +31,14 @@ returns c =
     let ended = c .before .before in
     let named = ended .before .before .before .before .before in
     let ruled = named .before .before .before in
-    let numbered = rw (ruled .rule-of .ensures) at (named .number .ensures) in
+    let numbered = rw (ruled .reason-rule .ensures) at (named .number .ensures) in
     behind numbered (ended .line .ensures)
 
 pub rule-line-spec : {M : Type 1} → statement M
 rule-line-spec =
     tie.close
     (tie.spec
-    rule-of-requires
+    reason-rule-requires
     slice-aggregate-number
     cast-number
     number-requires
