@@ -1,7 +1,7 @@
 """What has to be told of a refused packet. compare/why and compare/texts share it.
 
-Which test fails, and where, is `faults`. The values allowed are those with which the packet keeps that test, and the other
-tests of the same byte's fixed bits and value: they are worked out by asking all 256 what docs/RULES.md says of the byte. What
+Which test fails, and where, is `faults`. The values allowed are those with which the packet keeps that test, and
+what else the byte is tested for by itself: they are worked out by asking all 256 what docs/RULES.md says of the byte. What
 comes out is tried on the first packet of each test and each row of values: with each of the 256 in its place, but for those
 that would move the packet's other parts, it has to keep the test or fail it. Where bytes follow the footer, the checksum
 byte is part of its own sum, and none is tried.
