@@ -17,7 +17,8 @@ use Rattle.read_packet.proofs.Answers.{packet-inside}
 use Rattle.read_packet.specs.Code.{checkedRead, checkedShown, refusedChecked}
 use Rattle.read_packet.specs.Packet.{captionsLength, packetChecks}
 use Rattle.read_packet.specs.declared.checked.Checked.{Checked}
-use Rattle.explain_find.proofs.TestsFound.{Found, test-found}
+use Rattle.explain_find.proofs.Leaves.{Found}
+use Rattle.explain_find.proofs.TestsFound.{test-found}
 use Rattle.explain_find.specs.Code.{testFrom}
 use Rattle.explain.specs.Why.{reasonFor, reasonOf, whyOf}
 use Rattle.explain.specs.declared.why.Reason.{Reason}

@@ -58,7 +58,8 @@ use Rattle.service_entries.specs.Entries.{namedBy, sixBehind}
 use Rattle.read_closing.specs.Closing.{checksumOf}
 use Rattle.read_packet.specs.Packet.{servicesAt}
 
--- Tests of a size: the rule, and whether it has to be just the one asked for, or that one or more
+-- Tests of a size: the rule, and whether it has to be just the one asked for, or that one or more. 1.1; 2.1, 2.3; 5.1; 6.1, 6.4;
+-- 7.1, 7.3; S1, S4; 8.1, 8.3, 8.4; 9.1
 pub record SizeRow : Type 0 where
   pub rule : ℕ
   pub exact : Bool
@@ -85,7 +86,7 @@ sizeRow FutureWhole = atLeast 8
 sizeRow FutureNext = atLeast 8
 sizeRow FooterWhole = atLeast 9
 
--- Tests of two bytes: the rule, and the two that the packet has to have there
+-- Tests of two bytes, 2.2 and 9.2: the rule, and the two that the packet has to have there
 pub record PairRow : Type 0 where
   pub rule : ℕ
   pub first : List ℕ → ℕ
@@ -119,7 +120,8 @@ numberWanted p place = numberOf (entryOf (sixBehind p place) .service)
 abbrev pub flagsWanted : List ℕ → ℕ
 flagsWanted p = under xE0 (byte p 4) * 8 + under x70 (byte p (servicesAt p + 1))
 
--- E2a asks of a digital service alone, E2b of a field; 8.2 asks of what is not the footer
+-- 3.1; 5.2 to 5.5; 6.2, 6.3; 7.2; S2, S3; S5, S6; E1, E2a, E2b, E3, E4; S8; 7.4; 8.2; 9.3. E2a asks of a digital service alone,
+-- E2b of a field; 8.2 asks of what is not the footer
 abbrev pub byteRow : ByteTest → ByteRow
 byteRow Rate = byItself 3 (λ v. fromId (under xF0 v) .present) []
 byteRow TimeId = byItself 5 (λ v. eqb v timeCodeId) []
