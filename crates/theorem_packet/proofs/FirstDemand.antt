@@ -19,6 +19,7 @@ use Rattle.service_list.specs.Section as Section
 use Rattle.service_entries.specs.Entries.{places}
 use Rattle.service_entries.specs.Code.{entriesRead, sectionOutcome}
 use Rattle.service_list.specs.SectionWriting.{sectionBytes, sectionWritten, valueChecks}
+use Rattle.service_list.specs.ServiceList.{listAbsent}
 use Rattle.service_list.specs.Code.{valueAnswer}
 use Rattle.reader.proofs.PacketShown.{checks-answer}
 use Rattle.reader.proofs.Refusals as Refusals
@@ -99,7 +100,7 @@ pub first-demand : FirstDemand
 unfolding read packetRead ReadHeader.headerRead ReadTimeCode.timeCodeRead ReadCaptions.captionsTested
     ReadServices.servicesTested ReadClosing.closingRead sectionOutcome entriesRead Section.sectionRead Entry.entryRead
     Time.timeRead Time.timeWritten Writing.packetWritten sectionWritten entryWritten valueAnswer setServiceInfo
-    WriteChecks.packetWriteTested putAnswer put textWritten
+    WriteChecks.othersWriteTested putAnswer put textWritten
 first-demand =
     record {
       packetRead = λ s p lent. with-length differ (read-proper p lent) (captionsLength p);
@@ -120,7 +121,7 @@ first-demand =
           (packet-write-proper never rate (w .«time_code») (w .«service_info») (length captions))
           (Checks.packetLength (w .«time_code») (w .«service_info») (length captions)) buffer)
           (Checks.packetLength (w .«time_code») (w .«service_info») (length captions));
-      packetTested = λ rate time services run. without never (packet-write-proper never rate time services run);
+      othersTested = λ rate time run. without never (packet-write-proper never rate time listAbsent run);
       sectionAnswered = λ l buffer.
           with-length never (with-room never (valueChecks l) (value-proper never l) (sectionLength (l .count)) buffer)
           (length (sectionBytes l));

@@ -86,8 +86,8 @@ pub record FirstDemand : Type 0 where
   -- whatever is to be written, or held, and whatever buffer is lent
   pub packetAnswered : (w : CDPWriter) (rate : Framerate) (captions buffer : List ℕ)
       → inTable true never (heldWritten w rate captions buffer .answer) ≡ true
-  pub packetTested : (rate : Framerate) (time : MaybeTimeCode) (services : MaybeServiceInfo) (run : ℕ)
-      → inTable false never (WriteChecks.packetWriteTested rate time services run .answer) ≡ true
+  pub othersTested : (rate : Framerate) (time : MaybeTimeCode) (run : ℕ)
+      → inTable false never (WriteChecks.othersWriteTested rate time run .answer) ≡ true
   pub sectionAnswered : (l : ServiceInfo) (buffer : List ℕ) → inTable true never (SectionWriting.sectionWritten l buffer .answer) ≡ true
   pub entryAnswered : (e : ServiceEntry) (buffer : List ℕ) → inTable true never (EntryWriting.entryWritten e buffer .answer) ≡ true
   pub timeAnswered : (t : TimeCode) → inTable false never (Time.timeWritten t .answer) ≡ true

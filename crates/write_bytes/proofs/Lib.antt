@@ -1,2 +1,3 @@
 pub mod Parts
+pub mod ServicesWrites
 pub mod PacketWrites

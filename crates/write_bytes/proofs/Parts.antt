@@ -1,24 +1,25 @@
 -- The parts of a packet in the lent buffer: each as it is put, and all of them one behind the other.
 -- Assumes nothing.
-use mathlib.Core.Path.{_≡_, _∙_, sym, ap, ap₂}
+use mathlib.Core.Path.{_≡_, _∙_, sym, refl, ap, ap₂}
 use mathlib.Core.Bool.{Bool, true, false, cond}
 use mathlib.Core.List.{List, [], _∷_, _++_, append-assoc}
 use Prim.Native.Nat.{ℕ, _+_, _-_, _/_, _≤_}
 use native.Mathlib.Nat.{zero-add}
 use native.Mathlib.Omega.{arith}
-use lib.ListN.{length, drop, length-append, length-drop, take}
-use lib.Seq.{length-take-le}
-use Rattle.basis.proofs.Puts.{over-nil, over-over, part-over, put-fits, put-put, take-over, take-put}
-use Rattle.basis.proofs.Verdicts.{when-there}
+use lib.ListN.{length, drop, length-append, take}
+use lib.Seq.{drop-at, length-take-le}
+use Rattle.basis.proofs.Puts.{over-nil, over-over, put-fits, put-put, take-over, take-put}
 use Rattle.basis.specs.Bytes.{over}
 use Rattle.basis.specs.Code.{put}
-use Rattle.basis.specs.Check.{WriteVerdict, clear, ifClear, sizeWhen, verdict}
+use Rattle.basis.specs.Check.{sizeWhen}
 use Rattle.values.specs.Checksum.{negative, total}
 use Rattle.values.specs.Layout.{captionsId, timeCodeId, sectionLength, footerSize, headerSize, sectionHeadSize, timeCodeSize}
-use Rattle.values_time.specs.Time.{timeBytes, timeWriteChecks, timeWritten}
-use Rattle.service_list.proofs.SectionWrites.{section-fits, section-length}
-use Rattle.service_list.specs.SectionWriting.{sectionBytes, sectionWritten, valueChecks}
-use Rattle.write_checks.specs.Checks.{packetLength, servicesWriteChecks, servicesLength, timeCodeWriteChecks, timeCodeLength}
+use Rattle.values_time.specs.Time.{timeBytes}
+use Rattle.service_list.proofs.SectionWrites.{section-length}
+use Rattle.service_list.specs.ServiceList.{listAbsent}
+use Rattle.service_list.specs.SectionWriting.{sectionBytes}
+use Rattle.write_checks.specs.Checks.{packetLength, servicesLength, timeCodeLength}
+use Rattle.write_checks.specs.Code.{heldTimeBytes, zeros}
 use Rattle.write_bytes.specs.PacketWriting.{
   captionsBytes,
   heldFlags,
@@ -29,7 +30,6 @@ use Rattle.write_bytes.specs.PacketWriting.{
   timeCodeBytes,
 }
 use Rattle.service_list.specs.declared.list.MaybeServiceInfo.{MaybeServiceInfo}
-use Rattle.service_list.specs.declared.list.ServiceInfo.{ServiceInfo}
 use Rattle.values.specs.declared.flags.Flags.{Flags}
 use Rattle.values.specs.declared.framerate.Framerate.{Framerate}
 use Rattle.values_time.specs.declared.time.MaybeTimeCode.{MaybeTimeCode}
@@ -62,57 +62,24 @@ module _ (time : MaybeTimeCode) (services : MaybeServiceInfo) where
   flags-with a = rw a
 
 module _ (at : ℕ) (buffer : List ℕ) where
-  nothing-put : (present : Bool) (bytes : List ℕ) (size : ℕ) → present ≡ false
-      → PutAt at (sizeWhen present size) (cond present bytes []) buffer at buffer
-  nothing-put present bytes size a = (rw a (omega arith), rw a (sym (over-nil at buffer)))
+  module _ (timed : Bool) (bytes : List ℕ) where
+    abbrev timePart : List ℕ
+    timePart = cond timed (timeCodeId ∷ bytes) []
 
-  pub time-absent : (time : MaybeTimeCode) → time .present ≡ false
-      → PutAt at (timeCodeLength time) (timeCodeBytes time) buffer at buffer
-  time-absent time a = nothing-put (time .present) (timeCodeId ∷ timeBytes (time .«time_code»)) timeCodeSize a
+    pub time-absent : timed ≡ false → PutAt at (sizeWhen timed timeCodeSize) timePart buffer at buffer
+    time-absent a = (rw a (omega arith), rw a (sym (over-nil at buffer)))
 
-  pub services-absent : (services : MaybeServiceInfo) → services .present ≡ false
-      → PutAt at (servicesLength services) (servicesBytes services) buffer at buffer
-  services-absent services a = nothing-put (services .present) (sectionBytes (services .«service_info»)) _ a
-
-  module _ (time : MaybeTimeCode) (held : time .present ≡ true) (right : verdict (timeCodeWriteChecks time) ≡ clear)
-      (room : at + timeCodeLength time ≤ length buffer) where
-    time-bytes : timeWritten (time .«time_code») .bytes ≡ timeBytes (time .«time_code»)
-    unfolding timeWritten
-    time-bytes =
-        ap (λ (v : WriteVerdict). ifClear v (timeBytes (time .«time_code»)) (0 ∷ 0 ∷ 0 ∷ 0 ∷ []))
-        (when-there (time .present) (timeWriteChecks (time .«time_code»)) held right)
-
-    pub time-put : PutAt at (timeCodeLength time) (timeCodeBytes time) buffer (at + timeCodeSize)
-        (put (at + 1) (timeWritten (time .«time_code») .bytes) (put at (timeCodeId ∷ []) buffer))
-    time-put =
+    pub time-put : timed ≡ true → length bytes ≡ 4 → at + sizeWhen timed timeCodeSize ≤ length buffer
+        → PutAt at (sizeWhen timed timeCodeSize) timePart buffer (at + timeCodeSize)
+        (put (at + 1) bytes (put at (timeCodeId ∷ []) buffer))
+    time-put held four room =
         let fits : at + timeCodeSize ≤ length buffer = rw held at room in
-        (rw held, rw (held, time-bytes) (put-put at (timeCodeId ∷ []) (timeBytes (time .«time_code»)) buffer fits))
+        (rw held, rw held (put-put at (timeCodeId ∷ []) bytes buffer (omega arith)))
 
   module _ (captions : List ℕ) (room : at + (2 + length captions) ≤ length buffer) where
     pub captions-put : put (at + 2) captions (put at (captionsId ∷ (0xE0 + length captions / 3) ∷ []) buffer)
         ≡ over at (captionsBytes captions) buffer
     captions-put = put-put at (captionsId ∷ (0xE0 + length captions / 3) ∷ []) captions buffer (omega arith)
-
-  -- what stands from the place on, as the code lends it
-  abbrev rest : List ℕ
-  rest = take (length buffer - at) (drop at buffer)
-
-  module _ (services : MaybeServiceInfo) (held : services .present ≡ true)
-      (right : verdict (servicesWriteChecks services) ≡ clear)
-      (room : at + servicesLength services ≤ length buffer) where
-    abbrev list : ServiceInfo
-    list = services .«service_info»
-
-    pub services-put : PutAt at (servicesLength services) (servicesBytes services) buffer
-        (at + sectionWritten list rest .answer .first)
-        (take at buffer ++ (sectionWritten list rest .buffer ++ drop (length buffer - at) (drop at buffer)))
-    services-put =
-        let own : verdict (valueChecks list) ≡ clear = when-there (services .present) (valueChecks list) held right in
-        let fits : at + sectionLength (list .count) ≤ length buffer = rw held at room in
-        let long : length rest ≡ length buffer - at =
-        length-take-le (length buffer - at) (drop at buffer) (omega (arith, length-drop at buffer)) in
-        let left = section-fits list rest own (omega (arith, long)) in
-        (rw (held, ← left .0), rw (held, ← left .1) (part-over at (sectionBytes list) buffer))
 
   module _ (sequence : ℕ) (room : at + footerSize ≤ length buffer) where
     abbrev footer : List ℕ
@@ -134,6 +101,19 @@ behind : (xs ys buffer : List ℕ) (at : ℕ) → at ≡ length xs → over at y
 behind xs ys buffer at e =
     ap (λ (n : ℕ). over n ys (over 0 xs buffer)) (e ∙ sym (zero-add (length xs)))
     ∙ over-over 0 xs ys buffer (omega arith)
+
+-- bytes put at the start, right in front of those that stand there
+in-front : (xs ys buffer : List ℕ) (at : ℕ) → at ≡ length xs → at ≤ length buffer
+    → over 0 xs (over at ys buffer) ≡ over 0 (xs ++ ys) buffer
+unfolding over
+in-front xs ys buffer at e room =
+    let tail : List ℕ = drop (at + length ys) buffer in
+    let long : length (take at buffer) ≡ 0 + length xs = length-take-le at buffer room ∙ e ∙ sym (zero-add (length xs)) in
+    let end : at + length ys ≡ 0 + length (xs ++ ys) = simp length-append (omega arith) in
+    ap (λ (b : List ℕ). xs ++ drop (0 + length xs) b) (append-assoc (take at buffer) ys tail)
+    ∙ ap (λ (b : List ℕ). xs ++ b) (drop-at (take at buffer) (ys ++ tail) (0 + length xs) long)
+    ∙ sym (append-assoc xs ys tail)
+    ∙ ap (λ (n : ℕ). (xs ++ ys) ++ drop n buffer) end
 
 -- the sizes of the parts are their lengths
 cond-length : (present : Bool) (bytes : List ℕ) (size : ℕ) → length bytes ≡ size
@@ -160,50 +140,73 @@ module _ (rate : Framerate) (sequence : ℕ) (time : MaybeTimeCode) (services : 
   abbrev section : List ℕ
   section = servicesBytes services
 
-  -- all but the footer
+  -- what stands in front of the services, and all but the footer
+  abbrev lead : List ℕ
+  lead = header ++ times ++ captionsBytes captions
+
   abbrev front : List ℕ
-  front = header ++ times ++ captionsBytes captions ++ section
+  front = lead ++ section
+
+  lead-length : length lead ≡ headerSize + timeCodeLength time + (sectionHeadSize + length captions)
+  lead-length = simp (length-append, time-length time) (omega arith)
 
   front-length : length front ≡ headerSize + timeCodeLength time + (sectionHeadSize + length captions) + servicesLength services
-  front-length =
-      simp (length-append, time-length time, services-length services) (omega arith)
+  front-length = omega (arith, length-append lead section, lead-length, services-length services)
 
   pub packet-length : length (packetBytes rate sequence time services captions)
       ≡ packetLength time services (length captions)
   unfolding packetBytes
   packet-length = simp (length-append, time-length time, services-length services) (omega arith)
 
-  -- each part stands where the one before it ends, so that together they are the packet
-  pub packet-put : (buffer b1 b2 b3 b4 b5 : List ℕ) (a3 a4 a5 : ℕ) → headerSize ≤ length buffer → b1 ≡ put 0 header buffer
-      → PutAt headerSize (timeCodeLength time) times b1 a3 b2
-      → PutAt a3 (2 + length captions) (captionsBytes captions) b2 a4 b3
-      → PutAt a4 (servicesLength services) section b3 a5 b4
-      → b5 ≡ over a5 (footerBytes sequence ++ negative (total (take a5 b4 ++ footerBytes sequence)) ∷ []) b4
-      → b5 ≡ over 0 (packetBytes rate sequence time services captions) buffer
+  -- the services stand where what is put in front of them ends, and the footer behind them, so that together they are the packet
+  pub packet-put : (buffer b1 b2 b3 : List ℕ) → packetLength time services (length captions) ≤ length buffer
+      → b1 ≡ over (packetLength time listAbsent (length captions) - footerSize) section buffer
+      → b2 ≡ over 0 lead b1
+      → b3
+      ≡ over (packetLength time services (length captions) - footerSize)
+      (footerBytes sequence
+      ++ negative (total (take (packetLength time services (length captions) - footerSize) b2 ++ footerBytes sequence)) ∷ [])
+      b2
+      → b3 ≡ over 0 (packetBytes rate sequence time services captions) buffer
   unfolding packetBytes
-  packet-put buffer b1 b2 b3 b4 b5 a3 a4 a5 room e1 e2 e3 e4 e5 =
-      let long-times = time-length time in
-      let f1 : b1 ≡ over 0 header buffer = e1 ∙ put-fits 0 header buffer room in
-      let f2 : b2 ≡ over 0 (header ++ times) buffer =
-      e2 .1 ∙ ap (over headerSize times) f1 ∙ behind header times buffer headerSize (omega arith) in
-      let f3 : b3 ≡ over 0 (header ++ times ++ captionsBytes captions) buffer =
-      e3 .1
-      ∙ ap (over a3 (captionsBytes captions)) f2
-      ∙ behind (header ++ times) (captionsBytes captions) buffer a3
-      (simp (length-append, long-times) (omega (arith, e2 .0))) in
-      let f4 : b4 ≡ over 0 front buffer =
-      e4 .1
-      ∙ ap (over a4 section) f3
-      ∙ behind (header ++ times ++ captionsBytes captions) section buffer a4
-      (simp (length-append, long-times) (omega (arith, e2 .0, e3 .0))) in
-      let end : a5 ≡ length front = omega (arith, e2 .0, e3 .0, e4 .0, front-length) in
-      let before : take a5 b4 ≡ front = ap₂ (λ (n : ℕ) (b : List ℕ). take n b) end f4 ∙ take-over front buffer in
-      let tail : ℕ → List ℕ = λ (n : ℕ). n ∷ [] in
-      e5
-      ∙ ap (λ (xs : List ℕ).
-      over a5 (footerBytes sequence ++ tail (negative (total (xs ++ footerBytes sequence)))) b4)
-      before
-      ∙ ap (over a5 (footerBytes sequence ++ tail (negative (total (front ++ footerBytes sequence))))) f4
-      ∙ behind front (footerBytes sequence ++ tail (negative (total (front ++ footerBytes sequence)))) buffer a5 end
-      ∙ ap (λ (xs : List ℕ). over 0 xs buffer)
-      (sym (append-assoc front (footerBytes sequence) (tail (negative (total (front ++ footerBytes sequence))))))
+  packet-put buffer b1 b2 b3 room e1 e2 e3 =
+      let at : ℕ = packetLength time listAbsent (length captions) - footerSize in
+      let end : ℕ = packetLength time services (length captions) - footerSize in
+      let begins : at ≡ length lead = omega (arith, lead-length) in
+      let ends : end ≡ length front = omega (arith, front-length) in
+      let f2 : b2 ≡ over 0 front buffer = e2 ∙ ap (over 0 lead) e1 ∙ in-front lead section buffer at begins (omega arith) in
+      let before : take end b2 ≡ front = ap₂ (λ (n : ℕ) (b : List ℕ). take n b) ends f2 ∙ take-over front buffer in
+      let sum : List ℕ → List ℕ = λ (xs : List ℕ). negative (total (xs ++ footerBytes sequence)) ∷ [] in
+      e3
+      ∙ ap (λ (xs : List ℕ). over end (footerBytes sequence ++ sum xs) b2) before
+      ∙ ap (over end (footerBytes sequence ++ sum front)) f2
+      ∙ behind front (footerBytes sequence ++ sum front) buffer end ends
+      ∙ ap (λ (xs : List ℕ). over 0 xs buffer) (sym (append-assoc front (footerBytes sequence) (sum front)))
+
+-- the bytes that the test of a time code has made are those that are put where it is held
+pub times-are : (time : MaybeTimeCode) → cond (time .present) (timeCodeId ∷ heldTimeBytes time) [] ≡ timeCodeBytes time
+times-are time = held (time .present)
+  where
+    held : (present : Bool)
+        → cond present (timeCodeId ∷ cond present (timeBytes (time .«time_code»)) zeros) []
+        ≡ cond present (timeCodeId ∷ timeBytes (time .«time_code»)) []
+    held true = refl
+    held false = refl
+
+-- header, time code and captions, each where the one before it ends
+pub lead-put : (header bytes captions buffer b1 b2 b3 : List ℕ) (timed : Bool) (at : ℕ) → length header ≡ headerSize
+    → length bytes ≡ 4 → headerSize ≤ length buffer → b1 ≡ put 0 header buffer
+    → PutAt headerSize (sizeWhen timed timeCodeSize) (cond timed (timeCodeId ∷ bytes) []) b1 at b2
+    → b3 ≡ over at (captionsBytes captions) b2
+    → b3 ≡ over 0 (header ++ cond timed (timeCodeId ∷ bytes) [] ++ captionsBytes captions) buffer
+lead-put header bytes captions buffer b1 b2 b3 timed at seven four room e1 e2 e3 =
+    let times : List ℕ = cond timed (timeCodeId ∷ bytes) [] in
+    let long : length times ≡ sizeWhen timed timeCodeSize =
+    cond-length timed (timeCodeId ∷ bytes) timeCodeSize (omega arith) in
+    let f1 : b1 ≡ over 0 header buffer = e1 ∙ put-fits 0 header buffer (omega arith) in
+    let f2 : b2 ≡ over 0 (header ++ times) buffer =
+    e2 .1 ∙ ap (over headerSize times) f1 ∙ behind header times buffer headerSize (sym seven) in
+    e3
+    ∙ ap (over at (captionsBytes captions)) f2
+    ∙ behind (header ++ times) (captionsBytes captions) buffer at
+    (simp (length-append, seven, long) (e2 .0))

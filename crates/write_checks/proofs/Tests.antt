@@ -2,34 +2,21 @@
 -- what holds where none does.
 -- Assumes nothing.
 use mathlib.Core.Path.{_≡_, _∙_, sym, refl, ap}
-use mathlib.Core.Bool.{Bool, true, false, false≢true}
-use mathlib.Core.List.{List, _++_}
-use Prim.Native.Nat.{ℕ, _%_, _≤_, _<_}
+use mathlib.Core.Bool.{Bool, true, false, false≢true, true≢false}
+use mathlib.Core.List.{List, append-nil, _++_}
+use Prim.Native.Nat.{ℕ, _+_, _%_, _≤_, _<_}
 use native.Mathlib.Omega.{arith}
 use borrow.Author.Tests.{eq-eqb, ne-eqb, le-leb, lt-leb, leb-true, leb-false, eqb-true}
 use lib.Dec.{eqb, leb}
 use Rattle.basis.proofs.Bools.{and-left, and-right}
 use Rattle.values.proofs.Rates.{no-row}
-use Rattle.basis.proofs.Verdicts.{
-  andThen,
-  append-first,
-  append-second,
-  done-clear,
-  done-value,
-  kept-at,
-  kept-from,
-  refused-shows,
-  refused-stays,
-  verdict-append,
-}
+use Rattle.basis.proofs.Verdicts.{append-first, append-second, done-clear, done-value, kept-at, kept-from, refused-not-done}
 use Rattle.basis.specs.Answer.{UnknownFramerate, WrongCaptionRun, done, refused}
-use Rattle.basis.specs.Check.{WriteCheck, WriteVerdict, answer, clear, sizeWhen, verdict, when}
+use Rattle.basis.specs.Check.{WriteCheck, WriteVerdict, answer, clear, broken, ifClear, sizeWhen, verdict, when}
 use Rattle.values.specs.Rate.{fromId, known, noRate}
-use Rattle.values_time.specs.Time.{timeWriteChecks, timeWritten}
-use Rattle.service_list.proofs.SectionWrites.{value-length}
-use Rattle.service_list.specs.ServiceList.{byteLen}
+use Rattle.values_time.specs.Time.{timeBytes, timeWriteChecks, timeWritten}
+use Rattle.service_list.specs.ServiceList.{listAbsent}
 use Rattle.service_list.specs.SectionWriting.{valueChecks}
-use Rattle.service_list.specs.Code.{valueAnswer}
 use Rattle.write_checks.specs.Checks.{
   fullTriplets,
   packetWriteChecks,
@@ -39,71 +26,58 @@ use Rattle.write_checks.specs.Checks.{
   timeCodeWriteChecks,
   timeCodeLength,
 }
-use Rattle.write_checks.specs.Code.{packetWriteTested, servicesWriteTested, timeCodeWriteTested, withLength, withoutLength}
+use Rattle.write_checks.specs.Code.{
+  heldTimeBytes,
+  othersWriteTested,
+  timeCodeWriteTested,
+  withLength,
+  withoutLength,
+  zeros,
+}
 use Rattle.write_checks.specs.declared.checks.WriteTested.{WriteTested}
 use Rattle.service_list.specs.declared.list.MaybeServiceInfo.{MaybeServiceInfo}
 use Rattle.service_list.specs.declared.list.ServiceInfo.{ServiceInfo}
 use Rattle.basis.specs.declared.answer.Answer.{Answer}
 use Rattle.values.specs.declared.framerate.Framerate.{Framerate}
 use Rattle.values.specs.declared.framerate.MaybeFramerate.{MaybeFramerate}
-use Rattle.values.specs.Layout.{sectionLength, timeCodeSize}
+use Rattle.values.specs.Layout.{footerSize, headerSize, sectionHeadSize, sectionLength, timeCodeSize}
 use Rattle.values_time.specs.declared.time.MaybeTimeCode.{MaybeTimeCode}
 
--- an answer and a length
-abbrev measured : Answer → ℕ → WriteTested
-measured a length = record { answer = a; length = length }
+-- an answer, a length and four bytes
+abbrev measured : Answer → ℕ → List ℕ → WriteTested
+measured a length bytes = record { answer = a; length = length; «time_code» = bytes }
 
--- a part that may be held: its own checks decide where it is, and its size goes with 0
-module _ (present : Bool) (cs : List WriteCheck) (size : ℕ) where
-  abbrev part : WriteTested
-  part = withLength (verdict (when present cs)) (sizeWhen present size)
+-- beside a verdict: nothing on a refusal, both values with 0
+refused-alone : (v : WriteVerdict) (length : ℕ) (bytes : List ℕ) → eqb (answer v 0 .number) 0 ≡ false
+    → withoutLength (answer v 0) ≡ withLength v length bytes
+refused-alone clear length bytes h = absurd (true≢false h)
+refused-alone (broken rule) length bytes h = refl
 
-  not-held : present ≡ false → withoutLength (done 0) ≡ part
-  not-held a = simp a
+done-with : (v : WriteVerdict) (length : ℕ) (bytes : List ℕ) → eqb (answer v 0 .number) 0 ≡ true
+    → measured (answer v 0) length (ifClear v bytes zeros) ≡ withLength v length bytes
+done-with clear length bytes h = refl
+done-with (broken rule) length bytes h = absurd (false≢true (sym (refused-not-done (rule .refusal)) ∙ h))
 
-  module _ (held : present ≡ true) where
-    held-refused : eqb (answer (verdict cs) 0 .number) 0 ≡ false → withoutLength (answer (verdict cs) 0) ≡ part
-    held-refused h = simp held (refused-shows measured (verdict cs) 0 0 size 0 h)
-
-    held-done : eqb (answer (verdict cs) 0 .number) 0 ≡ true → measured (answer (verdict cs) 0) size ≡ part
-    held-done h = simp held (ap (measured (answer (verdict cs) 0)) (sym (done-value (verdict cs) 0 size 0 h)))
-
--- so time code and services
+-- a time code that may be held: its own checks decide where it is, and its size and its bytes go with 0
 module _ (time : MaybeTimeCode) where
   pub no-time : time .present ≡ false → withoutLength (done 0) ≡ timeCodeWriteTested time
   unfolding timeCodeWriteTested
-  no-time a = not-held (time .present) (timeWriteChecks (time .«time_code»)) timeCodeSize a
+  no-time a = simp a
 
   module _ (held : time .present ≡ true) where
     pub bad-time : eqb (timeWritten (time .«time_code») .answer .number) 0 ≡ false
         → withoutLength (timeWritten (time .«time_code») .answer) ≡ timeCodeWriteTested time
     unfolding timeWritten timeCodeWriteTested
-    bad-time h = held-refused (time .present) (timeWriteChecks (time .«time_code»)) timeCodeSize held h
+    bad-time h =
+        simp held
+        (refused-alone (verdict (timeWriteChecks (time .«time_code»))) timeCodeSize (timeBytes (time .«time_code»)) h)
 
     pub good-time : eqb (timeWritten (time .«time_code») .answer .number) 0 ≡ true
-        → measured (timeWritten (time .«time_code») .answer) timeCodeSize ≡ timeCodeWriteTested time
+        → measured (timeWritten (time .«time_code») .answer) timeCodeSize (timeWritten (time .«time_code») .bytes)
+        ≡ timeCodeWriteTested time
     unfolding timeWritten timeCodeWriteTested
-    good-time h = held-done (time .present) (timeWriteChecks (time .«time_code»)) timeCodeSize held h
-
-module _ (services : MaybeServiceInfo) where
-  abbrev list : ServiceInfo
-  list = services .«service_info»
-
-  pub no-list : services .present ≡ false → withoutLength (done 0) ≡ servicesWriteTested services
-  unfolding servicesWriteTested
-  no-list a = not-held (services .present) (valueChecks list) (sectionLength (list .count)) a
-
-  module _ (held : services .present ≡ true) where
-    pub bad-list : eqb (valueAnswer list .number) 0 ≡ false → withoutLength (valueAnswer list) ≡ servicesWriteTested services
-    unfolding valueAnswer servicesWriteTested
-    bad-list h = held-refused (services .present) (valueChecks list) (sectionLength (list .count)) held h
-
-    pub good-list : eqb (valueAnswer list .number) 0 ≡ true
-        → measured (valueAnswer list) (byteLen list .first) ≡ servicesWriteTested services
-    unfolding valueAnswer servicesWriteTested
-    good-list h =
-        ap (λ (a : Answer). measured (valueAnswer list) (a .first)) (value-length list h)
-        ∙ held-done (services .present) (valueChecks list) (sectionLength (list .count)) held h
+    good-time h =
+        simp held (done-with (verdict (timeWriteChecks (time .«time_code»))) timeCodeSize (timeBytes (time .«time_code»)) h)
 
 -- a held list that can be written counts up to 15, so that its section has 107 bytes at most
 services-most : (present : Bool) (l : ServiceInfo) → verdict (when present (valueChecks l)) ≡ clear
@@ -120,30 +94,29 @@ time-most false = omega arith
 services-held-most : (services : MaybeServiceInfo) → verdict (servicesWriteChecks services) ≡ clear → servicesLength services ≤ 107
 services-held-most services h = services-most (services .present) (services .«service_info») h
 
-time-code-most : (time : MaybeTimeCode) → timeCodeLength time ≤ timeCodeSize
+pub time-code-most : (time : MaybeTimeCode) → timeCodeLength time ≤ timeCodeSize
 time-code-most time = time-most (time .present)
 
--- the two lengths beside 0, as they are added up
-pub record Sizes (t s : WriteTested) (time : MaybeTimeCode) (services : MaybeServiceInfo) : Type 0 where
-  pub time-is : t .length ≡ timeCodeLength time
-  pub services-is : s .length ≡ servicesLength services
-  pub time-few : timeCodeLength time ≤ timeCodeSize
-  pub services-few : servicesLength services ≤ 107
+-- the length and the bytes beside 0
+pub record TimeMade (t : WriteTested) (time : MaybeTimeCode) : Type 0 where
+  pub clears : verdict (timeCodeWriteChecks time) ≡ clear
+  pub answers : t .answer ≡ done 0
+  pub size : t .length ≡ timeCodeLength time
+  pub bytes : t .«time_code» ≡ heldTimeBytes time
 
-pub sizes : (t s : WriteTested) (time : MaybeTimeCode) (services : MaybeServiceInfo) → t ≡ timeCodeWriteTested time
-    → s ≡ servicesWriteTested services
-    → eqb (t .answer .number) 0 ≡ true → eqb (s .answer .number) 0 ≡ true → Sizes t s time services
-unfolding timeCodeWriteTested servicesWriteTested
-sizes t s time services te se timed served =
+pub time-made : (t : WriteTested) (time : MaybeTimeCode) → t ≡ timeCodeWriteTested time → eqb (t .answer .number) 0 ≡ true
+    → TimeMade t time
+unfolding timeCodeWriteTested
+time-made t time e h =
+    let v : WriteVerdict = verdict (timeCodeWriteChecks time) in
+    let right : v ≡ clear = done-clear v 0 (rw e at h) in
+    let made : t ≡ withLength clear (timeCodeLength time) (heldTimeBytes time) =
+    e ∙ ap (λ (u : WriteVerdict). withLength u (timeCodeLength time) (heldTimeBytes time)) right in
     record {
-      time-is =
-          ap (λ (a : WriteTested). a .length) te
-          ∙ done-value (verdict (timeCodeWriteChecks time)) 0 (timeCodeLength time) 0 (rw te at timed);
-      services-is =
-          ap (λ (a : WriteTested). a .length) se
-          ∙ done-value (verdict (servicesWriteChecks services)) 0 (servicesLength services) 0 (rw se at served);
-      time-few = time-code-most time;
-      services-few = services-held-most services (done-clear (verdict (servicesWriteChecks services)) 0 (rw se at served));
+      clears = right;
+      answers = ap (λ (u : WriteTested). u .answer) made;
+      size = ap (λ (u : WriteTested). u .length) made;
+      bytes = ap (λ (u : WriteTested). u .«time_code») made;
     }
 
 above-eight : (id : ℕ) → 8 < id → noRate ≡ fromId id
@@ -160,69 +133,59 @@ named-id id false e h =
 pub known-id : (rate : Framerate) → known rate ≡ true → rate .id ≤ 8
 known-id rate h = named-id (rate .id) (leb (rate .id) 8) refl (and-left _ _ h)
 
-module _ (rate : Framerate) (time : MaybeTimeCode) (services : MaybeServiceInfo) (run : ℕ) where
-  pub other-rate : known rate ≡ false → withoutLength (refused UnknownFramerate) ≡ packetWriteTested rate time services run
-  unfolding packetWriteTested
+-- the packet without its list
+module _ (rate : Framerate) (time : MaybeTimeCode) (run : ℕ) where
+  pub other-rate : known rate ≡ false → withoutLength (refused UnknownFramerate) ≡ othersWriteTested rate time run
+  unfolding othersWriteTested
   other-rate a = simp a
 
   module _ (rated : known rate ≡ true) where
-    pub run-long : 93 < run → withoutLength (refused WrongCaptionRun) ≡ packetWriteTested rate time services run
-    unfolding packetWriteTested
+    pub run-long : 93 < run → withoutLength (refused WrongCaptionRun) ≡ othersWriteTested rate time run
+    unfolding othersWriteTested
     run-long a = simp (rated, lt-leb _ _ a)
 
     module _ (short : run ≤ 93) where
-      pub run-cut : (run % 3 ≡ 0 → ⊥) → withoutLength (refused WrongCaptionRun) ≡ packetWriteTested rate time services run
-      unfolding packetWriteTested
+      pub run-cut : (run % 3 ≡ 0 → ⊥) → withoutLength (refused WrongCaptionRun) ≡ othersWriteTested rate time run
+      unfolding othersWriteTested
       run-cut a = simp (rated, le-leb _ _ short, ne-eqb _ _ a)
 
       module _ (whole : run % 3 ≡ 0) where
-        abbrev behind : WriteVerdict
-        behind = andThen (verdict (timeCodeWriteChecks time)) (verdict (servicesWriteChecks services))
-
-        as-parts : verdict (packetWriteChecks rate time services run) ≡ behind
-        as-parts =
-            simp (rated, le-leb _ _ short, eq-eqb _ _ whole)
-            (verdict-append (timeCodeWriteChecks time) (servicesWriteChecks services))
+        as-time : verdict (timeCodeWriteChecks time) ≡ verdict (packetWriteChecks rate time listAbsent run)
+        as-time =
+            simp (rated, le-leb _ _ short, eq-eqb _ _ whole) (ap verdict (sym (append-nil (timeCodeWriteChecks time))))
 
         pub time-refused : eqb (timeCodeWriteTested time .answer .number) 0 ≡ false
-            → withoutLength (timeCodeWriteTested time .answer) ≡ packetWriteTested rate time services run
-        unfolding packetWriteTested timeCodeWriteTested
+            → withoutLength (timeCodeWriteTested time .answer) ≡ othersWriteTested rate time run
+        unfolding othersWriteTested timeCodeWriteTested
         time-refused h =
-            let v : WriteVerdict = verdict (timeCodeWriteChecks time) in
-            refused-shows measured v 0 0 (packetLength time services run) 0 h
-            ∙ ap (λ (u : WriteVerdict). withLength u (packetLength time services run))
-            (sym (as-parts ∙ refused-stays v _ _ h))
+            refused-alone (verdict (timeCodeWriteChecks time)) (packetLength time listAbsent run) (heldTimeBytes time) h
+            ∙ ap (λ (u : WriteVerdict). withLength u (packetLength time listAbsent run) (heldTimeBytes time)) as-time
 
-        module _ (timed : eqb (timeCodeWriteTested time .answer .number) 0 ≡ true) where
-          behind-time : verdict (packetWriteChecks rate time services run) ≡ verdict (servicesWriteChecks services)
-          unfolding timeCodeWriteTested
-          behind-time =
-              as-parts
-              ∙ ap (λ (v : WriteVerdict). andThen v (verdict (servicesWriteChecks services)))
-              (done-clear (verdict (timeCodeWriteChecks time)) 0 timed)
+        -- the length as it is added up
+        pub all-right : (t : WriteTested) → TimeMade t time
+            → measured (t .answer) (headerSize + t .length + (sectionHeadSize + run) + footerSize) (t .«time_code»)
+            ≡ othersWriteTested rate time run
+        unfolding othersWriteTested
+        all-right t made =
+            let long : headerSize + t .length + (sectionHeadSize + run) + footerSize ≡ packetLength time listAbsent run =
+            omega (arith, made .size) in
+            rw (made .answers, long, made .bytes)
+            (ap (λ (u : WriteVerdict). withLength u (packetLength time listAbsent run) (heldTimeBytes time))
+            (sym (made .clears) ∙ as-time))
 
-          pub services-refused : eqb (servicesWriteTested services .answer .number) 0 ≡ false
-              → withoutLength (servicesWriteTested services .answer) ≡ packetWriteTested rate time services run
-          unfolding packetWriteTested servicesWriteTested
-          services-refused h =
-              refused-shows measured (verdict (servicesWriteChecks services)) 0 0 (packetLength time services run) 0 h
-              ∙ ap (λ (u : WriteVerdict). withLength u (packetLength time services run)) (sym behind-time)
-
-          pub all-right : eqb (servicesWriteTested services .answer .number) 0 ≡ true
-              → measured (done 0) (packetLength time services run) ≡ packetWriteTested rate time services run
-          unfolding packetWriteTested servicesWriteTested
-          all-right h =
-              ap (λ (u : WriteVerdict). withLength u (packetLength time services run)) (sym (behind-time ∙ done-clear _ _ h))
-
--- where a packet's test gives an answer 0, its verdict is clear, and the packet's length stands beside it
-module _ (rate : Framerate) (time : MaybeTimeCode) (services : MaybeServiceInfo) (run : ℕ) (t : WriteTested) where
-  pub packet-right : t ≡ packetWriteTested rate time services run → eqb (t .answer .number) 0 ≡ true
-      → (verdict (packetWriteChecks rate time services run) ≡ clear) × (t .length ≡ packetLength time services run)
-  unfolding packetWriteTested
-  packet-right e h =
-      let v : WriteVerdict = verdict (packetWriteChecks rate time services run) in
-      let h0 = rw e at h in
-      (done-clear v 0 h0, ap (λ (u : WriteTested). u .length) e ∙ done-value v 0 (packetLength time services run) 0 h0)
+  -- where the test gives 0, the verdict is clear, and length and bytes stand beside it
+  pub others-right : (t : WriteTested) → t ≡ othersWriteTested rate time run → eqb (t .answer .number) 0 ≡ true
+      → (verdict (packetWriteChecks rate time listAbsent run) ≡ clear)
+      × (t .length ≡ packetLength time listAbsent run)
+      × (t .«time_code» ≡ heldTimeBytes time)
+  unfolding othersWriteTested
+  others-right t e h =
+      let v : WriteVerdict = verdict (packetWriteChecks rate time listAbsent run) in
+      let h0 = rw e at h in (
+        done-clear v 0 h0,
+        ap (λ (u : WriteTested). u .length) e ∙ done-value v 0 (packetLength time listAbsent run) 0 h0,
+        ap (λ (u : WriteTested). u .«time_code») e ∙ done-value v 0 (heldTimeBytes time) zeros h0,
+      )
 
 -- what holds of a packet that can be written
 pub record Accepted (rate : Framerate) (time : MaybeTimeCode) (services : MaybeServiceInfo) (run : ℕ) : Type 0 where

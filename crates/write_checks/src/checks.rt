@@ -1,35 +1,34 @@
-// Writing a packet: the checks in their order, and its length.
+// Writing a packet: the checks of the parts other than the services, in their order, and how long these parts are.
 ghost use mathlib.Core.Path.{_≡_};
 ghost use Rattle.write_checks.specs.Code as Code;
 use basis::Answer;
-use service_list::MaybeServiceInfo;
 use values::Framerate;
 use values::Packet;
 use values_time::MaybeTimeCode;
 
-// What testing something that is to be written gives: the answer, and its length beside it. The length is 0 where it is
-// not held, and beside a refusal.
+// What testing something that is to be written gives: the answer, its length, and the time code's four bytes, which the
+// test makes. The length is 0 where it is not held, and beside a refusal; the bytes are zeros there.
 pub struct WriteTested {
     pub answer: Answer,
     pub length: usize,
+    pub time_code: [u8; 4],
 }
 
 impl WriteTested {
     fn alone(answer: Answer) -> Self
         ensures { λ r. ⌜ r ≡ Code.withoutLength answer ⌝ }
     {
-        Self { answer, length: 0 }
+        Self {
+            answer,
+            length: 0,
+            time_code: [0; 4],
+        }
     }
 }
 
-// Whether a packet can be written, and how long it is.
-pub fn writable(
-    framerate: Framerate,
-    time_code: MaybeTimeCode,
-    service_info: MaybeServiceInfo,
-    run: usize,
-) -> WriteTested
-    ensures { λ r. ⌜ r ≡ Code.packetWriteTested framerate «time_code» «service_info» run ⌝ }
+// Whether a packet can be written but for its services, whose writer tests them, and how long it is without them.
+pub fn others_writable(framerate: Framerate, time_code: MaybeTimeCode, run: usize) -> WriteTested
+    ensures { λ r. ⌜ r ≡ Code.othersWriteTested framerate «time_code» run ⌝ }
 {
     if !framerate.is_known() {
         return WriteTested::alone(Answer::UNKNOWN_FRAMERATE);
@@ -41,22 +40,18 @@ pub fn writable(
         return WriteTested::alone(Answer::WRONG_CAPTION_RUN);
     }
     let timed = time_code_tested(time_code);
-    let time_answer = timed.answer;
-    if !time_answer.is_done() {
-        return WriteTested::alone(time_answer);
+    let answer = timed.answer;
+    if !answer.is_done() {
+        return WriteTested::alone(answer);
     }
-    let served = services_tested(service_info);
-    let list_answer = served.answer;
-    if !list_answer.is_done() {
-        return WriteTested::alone(list_answer);
-    }
+    let bytes = timed.time_code;
     WriteTested {
-        answer: Answer::done(0),
+        answer,
         length: Packet::HEADER_LEN
             + timed.length
             + (Packet::SECTION_HEAD_LEN + run)
-            + served.length
             + Packet::FOOTER_LEN,
+        time_code: bytes,
     }
 }
 
@@ -72,26 +67,10 @@ fn time_code_tested(time_code: MaybeTimeCode) -> WriteTested
     if !answer.is_done() {
         return WriteTested::alone(answer);
     }
+    let bytes = written.bytes;
     WriteTested {
         answer,
         length: Packet::TIME_CODE_LEN,
-    }
-}
-
-// 10 or 12 where a list that is held cannot be written.
-fn services_tested(service_info: MaybeServiceInfo) -> WriteTested
-    ensures { λ r. ⌜ r ≡ Code.servicesWriteTested «service_info» ⌝ }
-{
-    if !service_info.present {
-        return WriteTested::alone(Answer::done(0));
-    }
-    let answer = service_info.service_info.writable();
-    if !answer.is_done() {
-        return WriteTested::alone(answer);
-    }
-    let length = service_info.service_info.byte_len();
-    WriteTested {
-        answer,
-        length: length.first,
+        time_code: bytes,
     }
 }

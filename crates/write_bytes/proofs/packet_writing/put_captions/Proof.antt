@@ -1,6 +1,6 @@
 -- `write_bytes::packet_writing::put_captions`: two bytes, and the captions behind them.
 -- Assumes nothing.
-use mathlib.Core.Path.{_∙_, refl}
+use mathlib.Core.Path.{_∙_}
 use Rattle.write_bytes.proofs.Parts.{captions-put}
 use borrow.Author.Needs.{needs}
 use Rattle.write_bytes.proofs.packet_writing.put_captions.Statement.{statement}
@@ -24,12 +24,6 @@ add-put c = search needs
 put-requires-2 : tie.Need-put-requires-2
 put-requires-2 c κs = search needs
 
-add-result : tie.Need-add-result
-add-result c = search needs
-
-add-result-2 : tie.Need-add-result-2
-add-result-2 c = search needs
-
 same-length : tie.Need-same-length
 same-length c = search needs
 
@@ -39,10 +33,8 @@ returns c =
     let between = run-put .before .before in
     let head-put = between .before .before in
     let made = head-put .before .before in
-    let s = made .before .before .before in (
-      refl,
-      run-put .put2 .ensures .1 ∙ rw (head-put .put .ensures .1) (captions-put (s .args .at) _ _ (s .pre .1)),
-    )
+    let s = made .before .before .before in
+    run-put .put2 .ensures .1 ∙ rw (head-put .put .ensures .1) (captions-put (s .args .at) _ _ (s .pre .1))
 
 pub put-captions-spec : {M : Type 1} → statement M
 put-captions-spec =
@@ -54,7 +46,5 @@ put-captions-spec =
     put-requires
     add-put
     put-requires-2
-    add-result
-    add-result-2
     same-length
     returns)

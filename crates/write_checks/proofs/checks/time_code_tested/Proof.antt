@@ -48,10 +48,11 @@ returns-2 c =
 
 returns-3 : tie.Need-returns-3
 returns-3 c =
-    let made = bytes-made (c .before) in
+    let accepted = c .before in
+    let made = bytes-made (accepted .before) in
     let e = made .to-bytes .ensures in
     rw e (good-time (entered (time-code-held made) .args .time-code) (not-false _ (time-code-held made .if1 .left))
-    (rw e at (sym (c .before .is-done .ensures) ∙ not-false _ (c .if2 .left))))
+    (rw e at (sym (accepted .before .is-done .ensures) ∙ not-false _ (accepted .if2 .left))))
 
 pub time-code-tested-spec : {M : Type 1} → statement M
 time-code-tested-spec =
