@@ -1,7 +1,7 @@
 //! Does with the Rust what crates/bench does with the port: the same input, the same turns, the same lines.
 
 use cdp_types::cea708_types::DTVCCPacket;
-use cdp_types::{CDPParser, CDPWriter, Framerate, ParserError};
+use cdp_types::{CDPParser, CDPWriter, Framerate, ParserError, ServiceInfo};
 use std::io::Read;
 
 /// What stands in front of the packet.
@@ -16,6 +16,8 @@ fn main() {
         println!("input too short");
     } else if input[0] == b'W' {
         write(&input[FRONT..], turns);
+    } else if input[0] == b'S' {
+        section(&input[FRONT..], turns);
     } else {
         read(&mut input[FRONT..], turns);
     }
@@ -70,9 +72,36 @@ fn write_turns(writer: &mut CDPWriter, framerate: Framerate, turns: u32) {
         answers += writer.write(framerate, &mut rest).is_err() as u64;
         length = 255 - rest.len();
     }
+    written("packet", answers, length, &out);
+}
+
+fn section(packet: &[u8], turns: u32) {
+    let mut parser = CDPParser::new();
+    parser.parse(packet).expect("a packet that is refused");
+    match parser.service_info() {
+        Some(list) => section_turns(&mut list.clone(), turns),
+        None => println!("no service list"),
+    }
+}
+
+/// By `write`, which is what the packet writer calls.
+fn section_turns(list: &mut ServiceInfo, turns: u32) {
+    let mut out = [0; 255];
+    let mut answers = 0;
+    let mut length = 0;
+    for turn in 0..turns {
+        list.set_complete(turn % 2 == 1);
+        let mut rest = &mut out[..];
+        answers += list.write(&mut rest).is_err() as u64;
+        length = 255 - rest.len();
+    }
+    written("section", answers, length, &out);
+}
+
+fn written(name: &str, answers: u64, length: usize, out: &[u8]) {
     println!("answers {answers}");
     println!("length {length}");
-    println!("packet {}", sum(&out));
+    println!("{name} {}", sum(out));
 }
 
 fn captions(parser: &mut CDPParser) -> Vec<u8> {

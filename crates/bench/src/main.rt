@@ -1,8 +1,9 @@
-// Makes one call again and again, on one reader or one writer, and prints what came of it. Two runs that differ only in
-// the number of turns give the cost of one; bench/run takes it. Standard input is R or W, the number of turns in four
-// bytes, high byte first, and a packet.
+// Makes one call again and again, on one reader, one writer or one service list, and prints what came of it. Two runs
+// that differ only in the number of turns give the cost of one; bench/run takes it. Standard input is R to read, W to
+// write a packet or S to write a section, the number of turns in four bytes, high byte first, and a packet.
 mod print;
 mod reading;
+mod sections;
 mod writing;
 
 use reader::CDPParser;
@@ -32,6 +33,8 @@ fn run(input: &mut [u8], captions: &mut [u8], out: &mut [u8]) {
     let turns = number(input[1], input[2], input[3], input[4]);
     if input[0] == b'W' {
         writing::turns(&input[FRONT..count], turns, captions, out);
+    } else if input[0] == b'S' {
+        sections::turns(&input[FRONT..count], turns, captions, out);
     } else {
         reading::turns(&mut input[FRONT..count], turns, captions);
     }
