@@ -31,6 +31,8 @@ use lib.Seq.{
   take-at,
   drop-append-add,
   drop-drop,
+  sets,
+  sets-eq,
 }
 use Rattle.basis.specs.Answer.{done}
 use Rattle.basis.specs.Bytes.{over}
@@ -70,6 +72,12 @@ module _ (at : ℕ) (bytes buffer : List ℕ) where
   unfolding copied
   length-over h =
       rw (← copied-all (length bytes) (omega arith)) (length-paste buffer at bytes (length bytes) h (omega arith))
+
+-- bytes that code stores one after the other are put
+pub stored-over : (at : ℕ) (bytes buffer : List ℕ) → at + length bytes ≤ length buffer
+    → sets buffer at bytes ≡ over at bytes buffer
+unfolding over
+stored-over at bytes buffer h = sets-eq bytes buffer at h
 
 -- bytes put behind others that were put are all of them put
 pub over-over : (at : ℕ) (xs ys buffer : List ℕ) → at ≤ length buffer

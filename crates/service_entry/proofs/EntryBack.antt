@@ -3,7 +3,7 @@
 use mathlib.Core.Path.{_≡_, _∙_, refl, ap}
 use mathlib.Core.Bool.{Bool, true, false}
 use mathlib.Core.List.{List, [], _∷_}
-use Prim.Native.Nat.{ℕ, _+_, _-_, _%_, _^_, _≤_}
+use Prim.Native.Nat.{ℕ, _+_, _-_, _^_, _≤_}
 use native.Mathlib.Omega.{arith}
 use lib.Dec.{eqb, leb}
 use lib.ListN.{length, take}
@@ -15,10 +15,9 @@ use Rattle.basis.specs.Bytes.{byte}
 use Rattle.basis.specs.Check.{verdict, clear}
 use Rattle.basis.specs.Mask.{Mask, flag, under, allSet, x80, x40, x3F}
 use Rattle.service_entry.specs.Entry.{entryChecks, entryOf, entryRead, serviceOf}
-use Rattle.service_entry.specs.Code.{sevenOf, sixOf, within}
 use Rattle.service_entry.specs.Service.{entry}
 use Rattle.basis.specs.Writing.{Written}
-use Rattle.service_entry.specs.EntryWriting.{writable, kindByte, flagsByte, entryBytes, entryCheck, entryWritten, sevenBytes}
+use Rattle.service_entry.specs.EntryWriting.{writable, kindByte, flagsByte, entryBytes, entryCheck, entryWritten}
 use Rattle.basis.proofs.Writes.{first-bytes, room-done}
 use Rattle.service_entry.specs.declared.entry.ServiceEntry.{ServiceEntry}
 use Rattle.service_entry.specs.declared.service.DigitalServiceEntry.{DigitalServiceEntry}
@@ -31,27 +30,6 @@ number-low d h = leb-true 1 (d .service) (and-left _ _ h)
 
 pub number-high : (d : DigitalServiceEntry) → writable (Service d) ≡ true → d .service ≤ 63
 number-high d h = leb-true (d .service) 63 (and-right (leb 1 (d .service)) _ h)
-
--- a service that can be written is within six bits, and within seven
-within-64 : (s : FieldOrService) → writable s ≡ true → within 64 s ≡ s
-within-64 (Field first) h = refl
-within-64 (Service d) h =
-    let high : d .service ≤ 63 = number-high d h in
-    let low : d .service % 64 ≡ d .service = omega arith in
-    rw low
-
-within-128 : (s : FieldOrService) → writable s ≡ true → within 128 s ≡ s
-within-128 (Field first) h = refl
-within-128 (Service d) h =
-    let high : d .service ≤ 63 = number-high d h in
-    let low : d .service % 128 ≡ d .service = omega arith in
-    rw low
-
-pub six-of : (e : ServiceEntry) → writable (e .service) ≡ true → sixOf e ≡ entryBytes e
-six-of e h = rw (within-64 (e .service) h)
-
-pub seven-of : (e : ServiceEntry) → writable (e .service) ≡ true → sevenOf e ≡ sevenBytes e
-seven-of e h = rw (within-128 (e .service) h, within-64 (e .service) h)
 
 -- a test of a mask, from the number under it
 pub all-set : (m : Mask) (b : ℕ) → under m b ≡ 2 ^ m .ones - 1 → allSet m b ≡ true

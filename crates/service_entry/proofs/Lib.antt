@@ -1,3 +1,4 @@
 pub mod EntryBack
 pub mod EntryReads
 pub mod EntryWrites
+pub mod EntriesWrites

@@ -1,30 +1,33 @@
--- Follows the code and not the rules: what stands beside a refusal; and an entry's bytes, which calls make of any number,
--- and which hold its low bits.
--- Of a number that can be written these are the number.
-use mathlib.Core.List.{List, _∷_}
-use Prim.Native.Nat.{ℕ, _%_}
-use Rattle.service_entry.specs.Service.{digitalEntry, entry, filler}
-use Rattle.service_entry.specs.EntryWriting.{entryBytes, headerByte}
+-- Follows the code and not the rules: entries tested in one loop and put in another, and what stands beside a refusal.
+use mathlib.Core.Bool.{Bool, true, cond, _&&_}
+use mathlib.Core.List.{List, [], _∷_}
+use Prim.Native.Nat.{ℕ}
+use lib.Dec.{leb}
+use Rattle.basis.specs.Code.{put}
+use Rattle.service_entry.specs.EntriesWriting.{entryListBytes, placesFrom}
+use Rattle.service_entry.specs.EntryWriting.{writable}
+use Rattle.service_entry.specs.Service.{filler}
 use Rattle.service_entry.specs.declared.entry.ServiceEntry.{ServiceEntry}
-use Rattle.service_entry.specs.declared.service.FieldOrService.{FieldOrService}
-use Rattle.service_entry.specs.declared.service.FieldOrService.the-variants.{Field, Service}
-use Rattle.basis.specs.Check.{answer}
 use Rattle.service_entry.specs.declared.entry.ServiceEntryRead.{ServiceEntryRead}
 use Rattle.basis.specs.declared.answer.Answer.{Answer}
 
--- a service with its number's remainder
-abbrev pub within : ℕ → FieldOrService → FieldOrService
-within limit (Field first) = Field first
-within limit (Service digital) =
-    Service (digitalEntry (digital .service % limit) (digital .«easy_reader») (digital .«wide_aspect_ratio»))
+-- every one of them can be written
+unfoldable pub allWritable : List ServiceEntry → Bool
+allWritable [] = true
+allWritable (e ∷ es) = writable (e .service) && allWritable es
 
--- the six bytes of an entry, six bits of its number in byte 3
-abbrev pub sixOf : ServiceEntry → List ℕ
-sixOf e = entryBytes (entry (e .language) (within 64 (e .service)))
+-- how many places the array of entries has that is put
+abbrev pub arrayPlaces : ℕ
+arrayPlaces = 15
 
--- and the header byte in front, seven bits of the number in it
-abbrev pub sevenOf : ServiceEntry → List ℕ
-sevenOf e = headerByte (within 128 (e .service)) ∷ sixOf e
+-- so many of them are there, and can be written
+unfoldable pub placesWritable : List ServiceEntry → ℕ → Bool
+placesWritable services count = leb count arrayPlaces && allWritable (placesFrom services 0 count)
+
+-- what putting them from a place on leaves: where one cannot be written, or there is no room for all, the buffer as it was
+unfoldable pub entriesLeft : List ServiceEntry → ℕ → ℕ → List ℕ → List ℕ
+entriesLeft services count at buffer =
+    cond (placesWritable services count) (put at (entryListBytes (placesFrom services 0 count)) buffer) buffer
 
 -- a refusal shows the filler
 abbrev pub refusedEntry : Answer → ℕ → ServiceEntryRead

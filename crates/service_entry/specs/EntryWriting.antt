@@ -17,6 +17,10 @@ use Rattle.service_entry.specs.declared.service.FieldOrService.the-varia
 abbrev pub entryLength : ℕ
 entryLength = 6
 
+-- and how many in a section, behind its header byte
+abbrev pub sevenLength : ℕ
+sevenLength = entryLength + 1
+
 -- a digital number is 1 to 63; both fields can be written
 abbrev pub mostNumber : ℕ
 mostNumber = 63

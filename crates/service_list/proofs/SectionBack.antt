@@ -36,13 +36,15 @@ use Rattle.service_entry.specs.Service.{numberOf}
 use Rattle.service_list.specs.ServiceList.{list, empty}
 use Rattle.basis.specs.Writing.{Written}
 use Rattle.service_entry.specs.EntryWriting.{writable, headerByte, entryBytes, sevenBytes}
-use Rattle.service_list.specs.Code.{allWritable}
-use Rattle.service_list.specs.SectionWriting.{entryListBytes, counted, sectionByte, sectionBytes, sectionWritten}
+use Rattle.service_entry.specs.Code.{allWritable}
+use Rattle.service_entry.specs.EntriesWriting.{entryListBytes}
+use Rattle.service_list.specs.SectionWriting.{counted, sectionByte, sectionBytes, sectionWritten}
 use Rattle.service_entry.specs.declared.entry.ServiceEntry.{ServiceEntry}
 use Rattle.service_list.specs.declared.list.ServiceInfo.{ServiceInfo}
 use Rattle.service_entry.specs.declared.service.FieldOrService.{FieldOrService}
 use Rattle.service_entry.specs.declared.service.FieldOrService.the-variants.{Field, Service}
-use Rattle.service_list.proofs.SectionWrites.{bytes-length, counted-length, value-done, written-done}
+use Rattle.service_entry.proofs.EntriesWrites.{bytes-length}
+use Rattle.service_list.proofs.SectionWrites.{counted-length, value-done, written-done}
 use Rattle.basis.proofs.Writes.{first-bytes}
 use Rattle.service_entry.proofs.EntryBack.{all-set, number-high, service-back, entry-clear, entry-of-back}
 

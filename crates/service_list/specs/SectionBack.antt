@@ -6,7 +6,7 @@ use Prim.Native.Nat.{ℕ, _+_, _≤_}
 use lib.Dec.{eqb}
 use lib.ListN.{length}
 use Rattle.service_entries.specs.Entries.{places}
-use Rattle.service_list.specs.Code.{allWritable}
+use Rattle.service_entry.specs.Code.{allWritable}
 use Rattle.service_list.specs.SectionWriting.{counted}
 use Rattle.service_entry.specs.declared.entry.ServiceEntry.{ServiceEntry}
 use Rattle.service_list.specs.declared.list.ServiceInfo.{ServiceInfo}

@@ -1,30 +1,15 @@
 -- Writing a section.
 use mathlib.Core.List.{List, [], _∷_, _++_}
-use Prim.Native.Nat.{ℕ, zero, suc, _+_}
-use lib.ListN.{getD, length}
+use Prim.Native.Nat.{ℕ, _+_}
+use lib.ListN.{length}
 use Rattle.basis.specs.Check.{WriteCheck, roomCheck, verdict}
 use Rattle.basis.specs.Mask.{flag}
 use Rattle.values.specs.Layout.{servicesId, sectionLength}
-use Rattle.service_entry.specs.Service.{filler}
 use Rattle.basis.specs.Writing.{Written, written}
-use Rattle.service_entry.specs.EntryWriting.{entryCheck, sevenBytes}
+use Rattle.service_entry.specs.EntriesWriting.{entryListBytes, entryWriteChecks, placesFrom}
 use Rattle.service_list.specs.ServiceList.{countCheck}
 use Rattle.service_list.specs.declared.list.ServiceInfo.{ServiceInfo}
 use Rattle.service_entry.specs.declared.entry.ServiceEntry.{ServiceEntry}
-
--- the checks, and the bytes, of entries one after the other
-abbrev pub entryWriteChecks : List ServiceEntry → List WriteCheck
-entryWriteChecks [] = []
-entryWriteChecks (e ∷ es) = entryCheck e ∷ entryWriteChecks es
-
-abbrev pub entryListBytes : List ServiceEntry → List ℕ
-entryListBytes [] = []
-entryListBytes (e ∷ es) = sevenBytes e ++ entryListBytes es
-
--- so many places from one on
-abbrev pub placesFrom : List ServiceEntry → ℕ → ℕ → List ServiceEntry
-placesFrom services k zero = []
-placesFrom services k (suc n) = getD services k filler ∷ placesFrom services (k + 1) n
 
 -- the entries that the list counts; places past the count are unread
 abbrev pub counted : ServiceInfo → List ServiceEntry

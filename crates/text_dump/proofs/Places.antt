@@ -6,7 +6,7 @@ use Prim.Native.Nat.{ℕ, _+_, _<_}
 use lib.ListN.{getD, length}
 use Rattle.basis.specs.Made.{made}
 use Rattle.service_entry.specs.Service.{filler}
-use Rattle.service_list.proofs.Writable.{same-place}
+use Rattle.service_entry.proofs.EntriesWrites.{same-place}
 use Rattle.text.proofs.LinesPut.{each-more}
 use Rattle.text.specs.Lines.{lineText, linesText}
 use Rattle.text_dump.specs.Lines.{entryLine, placeLine}

@@ -9,7 +9,8 @@ use lib.ListN.{drop, getD, length, length-append, take}
 use lib.Seq.{drop-cons, take-at}
 use Rattle.service_entry.specs.Service.{filler}
 use Rattle.service_list.proofs.SectionWrites.{counted-length}
-use Rattle.service_list.specs.SectionWriting.{counted, placesFrom}
+use Rattle.service_entry.specs.EntriesWriting.{placesFrom}
+use Rattle.service_list.specs.SectionWriting.{counted}
 use Rattle.service_entries.specs.Entries.{filled}
 use Rattle.theorem_packet.specs.RoundTrip.{listBack}
 use Rattle.service_entry.specs.declared.entry.ServiceEntry.{ServiceEntry}

@@ -21,7 +21,8 @@ use Rattle.values_time.specs.Time.{timeChecks, timeWriteChecks}
 use Rattle.service_entry.specs.Entry.{entryChecks}
 use Rattle.service_entry.specs.EntryWriting.{entryCheck}
 use Rattle.service_entries.specs.Entries.{checksAt, countOf, entryListChecks, sectionChecks, sixBehind}
-use Rattle.service_list.specs.SectionWriting.{counted, entryWriteChecks, valueChecks}
+use Rattle.service_entry.specs.EntriesWriting.{entryWriteChecks}
+use Rattle.service_list.specs.SectionWriting.{counted, valueChecks}
 use Rattle.read_header.specs.Header.{flagsIn, headerChecks, sequenceIn}
 use Rattle.read_time_code.specs.TimeCode.{ofFour, timeCodeChecks}
 use Rattle.read_captions.specs.Captions.{captionsChecks, captionsSize}

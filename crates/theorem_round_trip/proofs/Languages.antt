@@ -15,7 +15,7 @@ use mir.Val.{Val}
 use Rattle.basis.proofs.Bools.{and-left, and-right}
 use Rattle.service_entry.specs.Service.{filler}
 use Rattle.service_list.specs.SectionBack.{allOfThree}
-use Rattle.service_list.specs.SectionWriting.{placesFrom}
+use Rattle.service_entry.specs.EntriesWriting.{placesFrom}
 use Rattle.theorem_packet.specs.RoundTrip.{Languages}
 use Rattle.service_entry.proofs.entry.ServiceEntry as Entry
 use Rattle.writer.proofs.writer.CDPWriter as Writer

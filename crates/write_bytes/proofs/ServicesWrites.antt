@@ -1,13 +1,13 @@
 -- Putting the services: what is left where a test is the first that fails, and where none does.
 -- Assumes nothing.
 use mathlib.Core.Path.{_≡_, _∙_, sym, refl, ap}
-use mathlib.Core.Bool.{Bool, true, false, true≢false, false≢true}
+use mathlib.Core.Bool.{Bool, true, false, true≢false}
 use mathlib.Core.List.{List, [], _∷_, _++_}
 use Prim.Native.Nat.{ℕ, _+_, _-_, _≤_, _<_}
 use native.Mathlib.Nat.{add-zero}
 use native.Mathlib.Omega.{arith}
-use borrow.Author.Tests.{le-leb, leb-true, lt-leb}
-use lib.Dec.{eqb, leb}
+use borrow.Author.Tests.{le-leb, lt-leb}
+use lib.Dec.{eqb}
 use lib.ListN.{length, drop, length-drop, take, take-append-drop}
 use lib.Seq.{length-take-le}
 use Rattle.basis.proofs.Puts.{over-nil, part-over}
@@ -20,7 +20,8 @@ use Rattle.basis.specs.Writing.{Written}
 use Rattle.values.specs.Layout.{footerSize, sectionLength}
 use Rattle.service_list.proofs.SectionWrites.{section-fits, value-clear, value-refused, written-done}
 use Rattle.service_list.specs.Code.{valueAnswer}
-use Rattle.service_list.specs.SectionWriting.{counted, entryWriteChecks, sectionBytes, sectionWritten, valueChecks}
+use Rattle.service_entry.specs.EntriesWriting.{entryWriteChecks}
+use Rattle.service_list.specs.SectionWriting.{counted, sectionBytes, sectionWritten, valueChecks}
 use Rattle.service_list.specs.ServiceList.{byteLen, countCheck, listPresent}
 use Rattle.write_bytes.specs.Code.{servicesPut}
 use Rattle.basis.specs.declared.answer.Answer.{Answer}
@@ -56,18 +57,6 @@ module _ (services : MaybeServiceInfo) (others : ℕ) (buffer : List ℕ) (absen
 pub as-held : (services : MaybeServiceInfo) → services .present ≡ true → listPresent (services .«service_info») ≡ services
 as-held services h =
     ap (λ (b : Bool). record { present = b; «service_info» = services .«service_info» }) (sym h)
-
--- a list that has a length counts up to 15
-counted-so : (l : ServiceInfo) (few : Bool) → leb (l .count) 15 ≡ few → eqb (byteLen l .number) 0 ≡ true
-    → leb (l .count) 15 ≡ true
-counted-so l true e h = e
-counted-so l false e h = absurd (false≢true (sym (simp e) ∙ h))
-
-pub length-given : (l : ServiceInfo) → eqb (byteLen l .number) 0 ≡ true
-    → (byteLen l ≡ done (sectionLength (l .count))) × (l .count ≤ 15)
-length-given l h =
-    let few : leb (l .count) 15 ≡ true = counted-so l (leb (l .count) 15) refl h in
-    (simp few, leb-true _ _ few)
 
 module _ (l : ServiceInfo) (others : ℕ) (buffer : List ℕ) where
   abbrev needed : ℕ

@@ -1,5 +1,7 @@
 -- `service_entry::entry_writing::kind_byte`: an entry's byte 3, by what it names.
 -- Assumes nothing.
+use native.Mathlib.Omega.{arith}
+use Rattle.service_entry.proofs.EntryBack.{number-high}
 use borrow.Author.Needs.{needs}
 use Rattle.service_entry.proofs.entry_writing.kind_byte.Statement.{statement}
 use Rattle.service_entry.proofs.entry_writing.kind_byte.Tie as tie
@@ -11,7 +13,9 @@ enum-known-service-2 : tie.Need-enum-known-service-2
 enum-known-service-2 c = search needs
 
 add-result : tie.Need-add-result
-add-result c = search needs
+add-result c =
+    let digital = c .before .before in
+    omega (arith, number-high (digital .service2 .given .0 .0) (rw (digital .service2 .given .1) at (digital .before .before .pre)))
 
 returns : tie.Need-returns
 returns c = search needs

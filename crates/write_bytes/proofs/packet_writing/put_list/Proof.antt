@@ -7,9 +7,9 @@ use borrow.Author.Tests.{not-true, not-false}
 use Rattle.basis.specs.Answer.{done}
 use Rattle.basis.specs.declared.answer.Answer.{Answer}
 use Rattle.values.specs.Layout.{sectionLength}
+use Rattle.service_list.proofs.SectionWrites.{count-held, length-is}
 use Rattle.write_bytes.proofs.ServicesWrites.{
   count-refused,
-  length-given,
   list-fits,
   list-no-room,
   list-refused,
@@ -30,8 +30,8 @@ size : (c : tie.Else1)
     × (start c .args .list .count ≤ 15)
 size c =
     let e = c .before .before .byte-len .ensures in
-    let given = length-given (start c .args .list) (rw e at (sym (c .before .is-done .ensures) ∙ not-false _ (c .if1 .left))) in
-    (e ∙ given .0, given .1)
+    let held = count-held (start c .args .list) (rw e at (sym (c .before .is-done .ensures) ∙ not-false _ (c .if1 .left))) in
+    (e ∙ length-is (start c .args .list) held, held)
 
 byte-len-requires : tie.Need-byte-len-requires
 byte-len-requires c κs = search needs

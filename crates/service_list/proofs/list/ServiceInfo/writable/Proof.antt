@@ -3,6 +3,7 @@
 use mathlib.Core.Path.{_∙_, sym}
 use native.Mathlib.Omega.{arith}
 use borrow.Author.Tests.{not-true, not-false}
+use Rattle.service_entry.proofs.EntriesWrites.{are-there}
 use Rattle.service_list.proofs.Writable.{count-over, some-unwritable, all-writable}
 use borrow.Author.Needs.{needs}
 use Rattle.service_list.proofs.list.ServiceInfo.writable.Statement.{statement}
@@ -11,11 +12,16 @@ use Rattle.service_list.proofs.list.ServiceInfo.writable.Tie as tie
 returns : tie.Need-returns
 returns c = count-over _ (omega arith)
 
-all-writable-requires : tie.Need-all-writable-requires
-all-writable-requires c κs = search needs
+slice-aggregate-put-all : tie.Need-slice-aggregate-put-all
+slice-aggregate-put-all c = search needs
+
+put-all-requires : tie.Need-put-all-requires
+put-all-requires c κs = search needs
 
 returns-2 : tie.Need-returns-2
-returns-2 c = some-unwritable _ (omega arith) (sym (c .before .all-writable .ensures) ∙ not-true _ (c .if2 .taken))
+returns-2 c =
+    some-unwritable _ (omega arith)
+    (sym (are-there _ _ (omega arith)) ∙ sym (c .before .before .put-all .ensures .0) ∙ not-true _ (c .if2 .taken))
 
 done-requires : tie.Need-done-requires
 done-requires c κs = search needs
@@ -24,9 +30,15 @@ returns-3 : tie.Need-returns-3
 returns-3 c =
     rw (c .done .ensures)
     (all-writable _ (omega arith)
-    (sym (c .before .before .all-writable .ensures) ∙ not-false _ (c .before .if2 .left)))
+    (sym (are-there _ _ (omega arith)) ∙ sym (c .before .before .before .put-all .ensures .0) ∙ not-false _ (c .before .if2 .left)))
 
 pub writable-spec : {M : Type 1} → statement M
 writable-spec =
     tie.close
-    (tie.spec returns all-writable-requires returns-2 done-requires returns-3)
+    (tie.spec
+    returns
+    slice-aggregate-put-all
+    put-all-requires
+    returns-2
+    done-requires
+    returns-3)

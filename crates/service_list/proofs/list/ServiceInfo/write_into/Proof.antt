@@ -1,98 +1,136 @@
--- `service_list::ServiceInfo::write_into`: count and entries, room, then the section.
+-- `service_list::ServiceInfo::write_into`: count, entries, room, then the section's own two bytes.
 -- Assumes nothing.
 use mathlib.Core.Path.{_≡_, _∙_, sym}
 use mathlib.Core.Bool.{true}
-use lib.Dec.{eqb}
+use Prim.Native.Nat.{_≤_}
+use native.Mathlib.Omega.{arith}
 use borrow.Author.Tests.{not-true, not-false}
-use Rattle.service_list.proofs.SectionWrites.{
-  value-clear,
-  value-refused,
-  value-done,
-  value-length,
-  section-no-room,
-  section-fits,
-}
+use lib.ListN.{length, length-set}
 use Rattle.basis.specs.Answer.{done}
 use Rattle.values.specs.Layout.{sectionLength}
-use Rattle.service_list.specs.Code.{valueAnswer}
+use Rattle.service_entry.specs.Code.{placesWritable}
+use Rattle.service_list.proofs.SectionWrites.{
+  count-held,
+  count-refused,
+  entry-refused,
+  length-is,
+  room-refused,
+  section-put,
+}
 use borrow.Author.Needs.{needs}
 use Rattle.service_list.proofs.list.ServiceInfo.write_into.Statement.{statement}
 use Rattle.service_list.proofs.list.ServiceInfo.write_into.Tie as tie
 
--- the stations: where the value is tested, and where it is accepted
-abbrev entered : tie.After-writable → tie.Start
-entered c = c .before .before
+-- the stations: where the length is known, where the count is a list's, where the entries are put, where they could be written
+abbrev start : tie.After-byte-len → tie.Start
+start c = c .before .before
 
-abbrev value-tested : tie.After-is-done → tie.After-writable
-value-tested c = c .before
+abbrev measured : tie.After-is-done → tie.After-byte-len
+measured c = c .before
 
-abbrev value-accepted : tie.After-byte-len → tie.Else1
-value-accepted c = c .before
+abbrev counts : tie.After-put-all → tie.Else1
+counts c = c .before .before .before
 
--- the arguments, from where the value is accepted on
-abbrev start : tie.Else1 → tie.Start
-start c = entered (value-tested (c .before))
+abbrev put : tie.Else2 → tie.After-put-all
+put c = c .before .before .before
 
--- what the test has shown, and the length that goes with it
-right : (c : tie.Else1) → eqb (valueAnswer (start c .args .self) .number) 0 ≡ true
-right c =
-    rw (value-tested (c .before) .writable .ensures) at (sym (c .before .is-done .ensures)
-    ∙ not-false _ (c .if1 .left))
+-- the arguments, from where the entries are put on
+abbrev given : tie.After-put-all → tie.Start
+given c = start (measured (counts c .before))
 
-size : (c : tie.After-byte-len)
-    → c .byte-len .result ≡ done (sectionLength (start (value-accepted c) .args .self .count))
-size c = c .byte-len .ensures ∙ value-length _ (right (value-accepted c))
+-- what the tests have shown, and the length that goes with the count
+held : (c : tie.Else1) → start (measured (c .before)) .args .self .count ≤ 15
+held c =
+    count-held (start (measured (c .before)) .args .self)
+    (rw (measured (c .before) .byte-len .ensures) at (sym (c .before .is-done .ensures) ∙ not-false _ (c .if1 .left)))
 
-writable-requires : tie.Need-writable-requires
-writable-requires c κs = search needs
+size : (c : tie.After-put-all)
+    → measured (counts c .before) .byte-len .result ≡ done (sectionLength (given c .args .self .count))
+size c = measured (counts c .before) .byte-len .ensures ∙ length-is (given c .args .self) (held (counts c))
+
+all : (c : tie.Else2)
+    → placesWritable (given (put c) .args .self .services) (given (put c) .args .self .count) ≡ true
+all c = sym (put c .put-all .ensures .0) ∙ not-false _ (c .if2 .left)
+
+same : (c : tie.After-put-all) → length (c .put-all .last .1 .1 .1 .0) ≡ length (given c .args .out .now)
+same c = c .put-all .kept .1 .1 .1 .0
+
+fits : (c : tie.Else3) → sectionLength (given (put (c .before)) .args .self .count) ≤ length (given (put (c .before)) .args .out .now)
+fits c = rw (size (put (c .before)), same (put (c .before))) at (c .if3 .left)
+
+byte-len-requires : tie.Need-byte-len-requires
+byte-len-requires c κs = search needs
 
 is-done-requires : tie.Need-is-done-requires
 is-done-requires c κs = search needs
 
 returns : tie.Need-returns
 returns c =
-    let e = value-tested (c .before) .writable .ensures in
-    rw e (value-refused _ _ (rw e at (sym (c .before .is-done .ensures) ∙ not-true _ (c .if1 .taken))))
+    let e = measured (c .before) .byte-len .ensures in
+    rw e (count-refused _ _ (rw e at (sym (c .before .is-done .ensures) ∙ not-true _ (c .if1 .taken))))
 
-byte-len-requires : tie.Need-byte-len-requires
-byte-len-requires c κs = search needs
-
-buffer-too-short-requires : tie.Need-buffer-too-short-requires
-buffer-too-short-requires c κs = search needs
-
-returns-2 : tie.Need-returns-2
-returns-2 c =
-    let s = c .before .before in
-    rw (c .buffer-too-short .ensures, size s)
-    (section-no-room _ _ (value-clear _ (right (value-accepted s))) (rw (size s) at (c .before .if2 .taken)))
-
-put-section-requires : tie.Need-put-section-requires
-put-section-requires c κs =
-    let s = c .before .before in
-    let both = value-done _ (right (value-accepted s)) in
-    (both .0, (rw (size s) at (c .before .if2 .left), both .1))
+put-all-requires : tie.Need-put-all-requires
+put-all-requires c κs = search needs
 
 same-length : tie.Need-same-length
 same-length c = search needs
 
+returns-2 : tie.Need-returns-2
+returns-2 c =
+    let p = c .before .before .before in
+    rw (p .put-all .ensures .1)
+    (entry-refused _ _ (held (counts p)) (sym (p .put-all .ensures .0) ∙ not-true _ (c .if2 .taken)))
+
+buffer-too-short-requires : tie.Need-buffer-too-short-requires
+buffer-too-short-requires c κs = search needs
+
+same-length-2 : tie.Need-same-length-2
+same-length-2 c = search needs
+
 returns-3 : tie.Need-returns-3
 returns-3 c =
-    let put = c .before .before in
-    let room = put .before .before in
-    let s = room .before in
-    rw (size s, put .put-section .ensures)
-    (section-fits _ _ (value-clear _ (right (value-accepted s))) (rw (size s) at (room .if2 .left)))
+    let short = c .before in
+    let p = put (short .before) in
+    let left =
+    room-refused (given p .args .self) (given p .args .out .now) (held (counts p)) (all (short .before))
+    (rw (size p, same p) at (short .if3 .taken)) in
+    (c .buffer-too-short .ensures ∙ rw (size p, same p) (left .0), p .put-all .ensures .1 ∙ left .1)
+
+slice-write-out : tie.Need-slice-write-out
+slice-write-out c = omega (arith, fits c, same (put (c .before)))
+
+header-byte-requires : tie.Need-header-byte-requires
+header-byte-requires c κs = held (counts (put (c .before)))
+
+slice-write-out-2 : tie.Need-slice-write-out-2
+slice-write-out-2 c = simp length-set (omega (arith, fits (c .before), same (put (c .before .before))))
+
+same-length-3 : tie.Need-same-length-3
+same-length-3 c = search needs
+
+returns-4 : tie.Need-returns-4
+returns-4 c =
+    let s = c .before .before in
+    let p = put s in
+    let left =
+    section-put (given p .args .self) (given p .args .out .now) (held (counts p)) (all s) (fits (c .before)) in
+    (size p ∙ left .0, rw (p .put-all .ensures .1, c .header-byte .ensures) (left .1))
 
 pub write-into-spec : {M : Type 1} → statement M
 write-into-spec =
     tie.close
     (tie.spec
-    writable-requires
+    byte-len-requires
     is-done-requires
     returns
-    byte-len-requires
-    buffer-too-short-requires
-    returns-2
-    put-section-requires
+    put-all-requires
     same-length
-    returns-3)
+    returns-2
+    buffer-too-short-requires
+    same-length-2
+    returns-3
+    slice-write-out
+    header-byte-requires
+    slice-write-out-2
+    same-length-3
+    returns-4)
