@@ -14,7 +14,7 @@ use Rattle.basis.specs.Bytes.{over}
 use Rattle.basis.specs.Check.{WriteVerdict, clear, broken, unplaced, verdict, answer}
 use Rattle.values.specs.Layout.{servicesId, sectionHeadSize, sectionLength}
 use Rattle.service_list.specs.ServiceList.{byteLen}
-use Rattle.service_entry.proofs.EntriesWrites.{all-left, are-there, entries-verdict, first-length, none-left, places-length, short-left}
+use Rattle.service_entry.proofs.EntriesWrites.{all-left, are-there, entries-verdict, first-length, places-length}
 use Rattle.basis.specs.Writing.{written}
 use Rattle.service_entry.specs.Code.{allWritable, entriesLeft, placesWritable}
 use Rattle.service_entry.specs.EntriesWriting.{entryListBytes}
@@ -116,32 +116,28 @@ module _ (l : ServiceInfo) (buffer : List ℕ) where
       let over : leb (l .count) 15 ≡ false = sym (length-told l) ∙ h in
       (simp over, simp over)
 
-  abbrev left : List ℕ
-  left = entriesLeft (l .services) (l .count) sectionHeadSize buffer
-
   module _ (held : l .count ≤ 15) where
     -- the list's entries are there, so that all of them can be written where its places can
     as-counted : placesWritable (l .services) (l .count) ≡ allWritable (counted l)
     as-counted = are-there (l .count) (l .services) held
 
     pub entry-refused : placesWritable (l .services) (l .count) ≡ false
-        → Leaves (sectionWritten l buffer) (refused NotWritable) left
+        → Leaves (sectionWritten l buffer) (refused NotWritable) buffer
     entry-refused some =
         let twelve : refused NotWritable ≡ valueAnswer l = some-unwritable l held (sym as-counted ∙ some) in
-        rw (← none-left (l .count) sectionHeadSize (l .services) buffer some, twelve) (value-refused (rw (← twelve)))
+        rw twelve (value-refused (rw (← twelve)))
 
     module _ (all : placesWritable (l .services) (l .count) ≡ true) where
       right : verdict (valueChecks l) ≡ clear
       right = value-clear l (rw (← all-writable l held (sym as-counted ∙ all)))
 
       pub room-refused : length buffer < sectionLength (l .count)
-          → Leaves (sectionWritten l buffer) (refused (BufferTooShort (sectionLength (l .count)) (length buffer))) left
-      room-refused h =
-          rw (← short-left (l .count) sectionHeadSize (l .services) buffer all h) (section-no-room right h)
+          → Leaves (sectionWritten l buffer) (refused (BufferTooShort (sectionLength (l .count)) (length buffer))) buffer
+      room-refused h = section-no-room right h
 
       pub section-put : sectionLength (l .count) ≤ length buffer
           → Leaves (sectionWritten l buffer) (done (sectionLength (l .count)))
-          (set (set left 0 servicesId) 1 (sectionByte l))
+          (set (set (entriesLeft (l .services) (l .count) sectionHeadSize buffer) 0 servicesId) 1 (sectionByte l))
       section-put h =
           rw (← all-left (l .count) sectionHeadSize (l .services) buffer all h, head-and-entries l buffer (omega arith))
           (section-fits right h)

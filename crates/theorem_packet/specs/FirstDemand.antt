@@ -8,6 +8,7 @@ use lib.ListN.{length}
 use Rattle.basis.specs.Code.{put, putAnswer}
 use Rattle.values_time.specs.Time as Time
 use Rattle.service_entry.specs.Entry as Entry
+use Rattle.service_entry.specs.Code as ServiceEntryCode
 use Rattle.service_entry.specs.EntryWriting as EntryWriting
 use Rattle.service_entries.specs.Code as ServiceEntries
 use Rattle.service_list.specs.Section as Section
@@ -106,6 +107,9 @@ pub record FirstDemand : Type 0 where
       → refuses (SectionWriting.sectionWritten l buffer .answer) → SectionWriting.sectionWritten l buffer .buffer ≡ buffer
   pub entryWrites : (e : ServiceEntry) (buffer : List ℕ)
       → refuses (EntryWriting.entryWritten e buffer .answer) → EntryWriting.entryWritten e buffer .buffer ≡ buffer
+  pub entriesWrites : (services : List ServiceEntry) (count at : ℕ) (buffer : List ℕ)
+      → ServiceEntryCode.placesWritable services count ≡ false
+      → ServiceEntryCode.entriesLeft services count at buffer ≡ buffer
   pub putWrites : (at : ℕ) (bytes buffer : List ℕ) → refuses (putAnswer at bytes buffer) → put at bytes buffer ≡ buffer
   pub textWrites : (text buffer : List ℕ) → refuses (textWritten text buffer .answer) → textWritten text buffer .buffer ≡ buffer
   -- a reader's refusal clears rate, time code and sequence, turns the caption-active mark off and keeps the list; 11 changes

@@ -68,11 +68,12 @@ returns-3 c =
     let right = c .before in
     let tested = right .before .before in
     let short = tested .before in
-    let long = ap (λ (a : Answer). a .first) (size (short .before .before) .0) in
+    let a = start (short .before .before) .args in
+    let long = ap (λ (x : Answer). x .first) (size (short .before .before) .0) in
     rw (c .buffer-too-short .ensures, long)
-    (list-no-room _ _ _
+    (list-no-room (a .list) (a .others) (a .out .now)
     (rw (tested .writable .ensures) at (sym (right .before .is-done2 .ensures) ∙ not-false _ (right .if3 .left)))
-    (rw long at (short .if2 .taken)))
+    (omega (arith, long, short .if2 .taken)))
 
 sub-at : tie.Need-sub-at
 sub-at c = search needs
@@ -126,7 +127,7 @@ returns-5 c =
     let right =
     section-right (a .list) _ (a .out .now) (omega (arith, long))
     (rw (e .0) at (sym (done .is-done3 .ensures) ∙ not-false _ (c .before .if4 .left))) in
-    let left = list-fits (a .list) (a .others) (a .out .now) (right .0) (rw long at (room .if2 .left)) in
+    let left = list-fits (a .list) (a .others) (a .out .now) (right .0) (omega (arith, long, room .if2 .left)) in
     (rw (c .done .ensures, long) (left .0), rw (e .1) (right .1 ∙ left .1))
 
 pub put-list-spec : {M : Type 1} → statement M

@@ -1,14 +1,16 @@
 -- `service_list::ServiceInfo::write_into`: count, entries, room, then the section's own two bytes.
 -- Assumes nothing.
-use mathlib.Core.Path.{_≡_, _∙_, sym}
+use mathlib.Core.Path.{_≡_, _∙_, sym, ap}
 use mathlib.Core.Bool.{true}
-use Prim.Native.Nat.{_≤_}
+use Prim.Native.Nat.{_≤_, _<_}
 use native.Mathlib.Omega.{arith}
 use borrow.Author.Tests.{not-true, not-false}
 use lib.ListN.{length, length-set}
 use Rattle.basis.specs.Answer.{done}
+use Rattle.basis.specs.declared.answer.Answer.{Answer}
 use Rattle.values.specs.Layout.{sectionLength}
 use Rattle.service_entry.specs.Code.{placesWritable}
+use Rattle.service_entry.proofs.EntriesWrites.{none-left, short-left}
 use Rattle.service_list.proofs.SectionWrites.{
   count-held,
   count-refused,
@@ -55,8 +57,11 @@ all c = sym (put c .put-all .ensures .0) ∙ not-false _ (c .if2 .left)
 same : (c : tie.After-put-all) → length (c .put-all .last .1 .1 .1 .0) ≡ length (given c .args .out .now)
 same c = c .put-all .kept .1 .1 .1 .0
 
+long : (c : tie.After-put-all) → measured (counts c .before) .byte-len .result .first ≡ sectionLength (given c .args .self .count)
+long c = ap (λ (a : Answer). a .first) (size c)
+
 fits : (c : tie.Else3) → sectionLength (given (put (c .before)) .args .self .count) ≤ length (given (put (c .before)) .args .out .now)
-fits c = rw (size (put (c .before)), same (put (c .before))) at (c .if3 .left)
+fits c = omega (arith, long (put (c .before)), same (put (c .before)), c .if3 .left)
 
 byte-len-requires : tie.Need-byte-len-requires
 byte-len-requires c κs = search needs
@@ -78,8 +83,9 @@ same-length c = search needs
 returns-2 : tie.Need-returns-2
 returns-2 c =
     let p = c .before .before .before in
-    rw (p .put-all .ensures .1)
-    (entry-refused _ _ (held (counts p)) (sym (p .put-all .ensures .0) ∙ not-true _ (c .if2 .taken)))
+    let some = sym (p .put-all .ensures .0) ∙ not-true _ (c .if2 .taken) in
+    let left = entry-refused (given p .args .self) (given p .args .out .now) (held (counts p)) some in
+    (left .0, p .put-all .ensures .1 ∙ sym (none-left _ _ _ _ some) ∙ left .1)
 
 buffer-too-short-requires : tie.Need-buffer-too-short-requires
 buffer-too-short-requires c κs = search needs
@@ -91,10 +97,12 @@ returns-3 : tie.Need-returns-3
 returns-3 c =
     let short = c .before in
     let p = put (short .before) in
-    let left =
-    room-refused (given p .args .self) (given p .args .out .now) (held (counts p)) (all (short .before))
-    (rw (size p, same p) at (short .if3 .taken)) in
-    (c .buffer-too-short .ensures ∙ rw (size p, same p) (left .0), p .put-all .ensures .1 ∙ left .1)
+    let less : length (given p .args .out .now) < sectionLength (given p .args .self .count) =
+    omega (arith, long p, same p, short .if3 .taken) in
+    let left = room-refused (given p .args .self) (given p .args .out .now) (held (counts p)) (all (short .before)) less in (
+      c .buffer-too-short .ensures ∙ rw (size p, same p) (left .0),
+      p .put-all .ensures .1 ∙ sym (short-left _ _ _ _ (all (short .before)) (omega (arith, less))) ∙ left .1,
+    )
 
 slice-write-out : tie.Need-slice-write-out
 slice-write-out c = omega (arith, fits c, same (put (c .before)))
