@@ -168,3 +168,12 @@ module _ (count at : ℕ) (services : List ServiceEntry) (buffer : List ℕ) whe
     pub all-left : at + sevenLength * count ≤ length buffer → over at bytes buffer ≡ entriesLeft services count at buffer
     unfolding entriesLeft
     all-left h = simp all (fits-clear at bytes buffer (omega (arith, first-length services count)) .1)
+
+-- where there is no room for all of them, nothing is put, whether they can be written or not
+pub no-room-left : (count at : ℕ) (services : List ServiceEntry) (buffer : List ℕ) → length buffer < at + sevenLength * count
+    → buffer ≡ entriesLeft services count at buffer
+no-room-left count at services buffer h = by (placesWritable services count) refl
+  where
+    by : (all : Bool) → placesWritable services count ≡ all → buffer ≡ entriesLeft services count at buffer
+    by true e = short-left count at services buffer e h
+    by false e = none-left count at services buffer e

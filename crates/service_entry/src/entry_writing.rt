@@ -1,4 +1,4 @@
-// Writing: an entry's bytes.
+// Writing: an entry's bytes, and those of the entries of a list.
 ghost use mathlib.Core.Path.{_≡_};
 ghost use mathlib.Core.Bool.{true};
 ghost use mathlib.Core.List.{_∷_, []};
@@ -45,8 +45,8 @@ impl ServiceEntry {
         Answer::done(Self::BYTE_LEN)
     }
 
-    // Whether so many of these entries can be written. Then they are put from a place on, each behind its header byte, if
-    // there is room for all of them. An array by value is stored in each function that indexes it: here both loops do.
+    // Whether so many of these entries can be written; then, if there is room for all, they are put from a place on, each
+    // behind its header byte. Both loops stand here, since each function that indexes the array stores it once more.
     pub fn put_all(services: [Self; 15], count: usize, at: usize, out: &mut [u8]) -> bool
         ensures { λ r. ⌜ r ≡ Code.placesWritable services count ⌝ }
         ensures { λ _. ⌜ now (out .exit) ≡ Code.entriesLeft services count at (now (out .entry)) ⌝ }

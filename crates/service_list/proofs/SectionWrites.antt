@@ -84,10 +84,6 @@ count-held l h = leb-true _ _ (sym (length-told l) ∙ h)
 pub length-is : (l : ServiceInfo) → l .count ≤ 15 → byteLen l ≡ done (sectionLength (l .count))
 length-is l h = simp (le-leb _ _ h)
 
-pub value-length : (l : ServiceInfo) → eqb (valueAnswer l .number) 0 ≡ true
-    → byteLen l ≡ done (sectionLength (l .count))
-value-length l h = length-is l (value-done l h .0)
-
 pub value-clear : (l : ServiceInfo) → eqb (valueAnswer l .number) 0 ≡ true → verdict (valueChecks l) ≡ clear
 unfolding valueAnswer
 value-clear l h = done-clear (verdict (valueChecks l)) 0 h

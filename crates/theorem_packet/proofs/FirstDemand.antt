@@ -14,7 +14,7 @@ use Rattle.basis.specs.Code.{fitting, put, putAnswer}
 use Rattle.values_time.specs.Time as Time
 use Rattle.service_entry.specs.Entry as Entry
 use Rattle.basis.specs.Writing.{written}
-use Rattle.service_entry.proofs.EntriesWrites.{none-left}
+use Rattle.service_entry.proofs.EntriesWrites.{no-room-left, none-left}
 use Rattle.service_entry.specs.EntryWriting.{entryBytes, entryCheck, entryWritten}
 use Rattle.service_list.specs.Section as Section
 use Rattle.service_entries.specs.Entries.{places}
@@ -141,6 +141,7 @@ first-demand =
       sectionWrites = λ l buffer. left (sectionVerdict l buffer) (sectionBytes l) buffer;
       entryWrites = λ e buffer. left (entryVerdict e buffer) (entryBytes e) buffer;
       entriesWrites = λ services count at buffer h. sym (none-left count at services buffer h);
+      entriesFit = λ services count at buffer h. sym (no-room-left count at services buffer h);
       putWrites = λ at bytes buffer h.
           sym
           (refused-shows (λ (a : Answer) (b : List ℕ). b) (fitting at bytes buffer) 0 0

@@ -2,7 +2,7 @@
 use mathlib.Core.Bool.{Bool, true, false, cond, not, _&&_, _||_}
 use mathlib.Core.List.{List}
 use mathlib.Core.Path.{_≡_}
-use Prim.Native.Nat.{ℕ}
+use Prim.Native.Nat.{ℕ, _+_, _*_, _<_}
 use lib.Dec.{eqb, leb, ltb}
 use lib.ListN.{length}
 use Rattle.basis.specs.Code.{put, putAnswer}
@@ -109,6 +109,9 @@ pub record FirstDemand : Type 0 where
       → refuses (EntryWriting.entryWritten e buffer .answer) → EntryWriting.entryWritten e buffer .buffer ≡ buffer
   pub entriesWrites : (services : List ServiceEntry) (count at : ℕ) (buffer : List ℕ)
       → ServiceEntryCode.placesWritable services count ≡ false
+      → ServiceEntryCode.entriesLeft services count at buffer ≡ buffer
+  pub entriesFit : (services : List ServiceEntry) (count at : ℕ) (buffer : List ℕ)
+      → length buffer < at + EntryWriting.sevenLength * count
       → ServiceEntryCode.entriesLeft services count at buffer ≡ buffer
   pub putWrites : (at : ℕ) (bytes buffer : List ℕ) → refuses (putAnswer at bytes buffer) → put at bytes buffer ≡ buffer
   pub textWrites : (text buffer : List ℕ) → refuses (textWritten text buffer .answer) → textWritten text buffer .buffer ≡ buffer

@@ -86,10 +86,10 @@ fn put_services(service_info: MaybeServiceInfo, others: usize, out: &mut [u8]) -
     ensures { λ r. ⌜ r ≡ Code.servicesPut «service_info» others (now (out .entry)) .answer ⌝ }
     ensures { λ r. ⌜ now (out .exit) ≡ Code.servicesPut «service_info» others (now (out .entry)) .buffer ⌝ }
 {
-    let room = out.len();
     if service_info.present {
         return put_list(service_info.service_info, others, out);
     }
+    let room = out.len();
     if room < others {
         return Answer::buffer_too_short(others, room);
     }
