@@ -1,7 +1,7 @@
 -- Follows the code and not the rules: the answer of a list's tests, and what stands beside a refusal.
 use Prim.Native.Nat.{ℕ}
 use Rattle.basis.specs.Check.{verdict, answer}
-use Rattle.service_list.specs.ServiceList.{list, empty}
+use Rattle.service_list.specs.ServiceList.{empty}
 use Rattle.service_list.specs.declared.list.ServiceInfo.{ServiceInfo}
 use Rattle.service_list.specs.declared.section.ServiceInfoRead.{ServiceInfoRead}
 use Rattle.basis.specs.declared.answer.Answer.{Answer}

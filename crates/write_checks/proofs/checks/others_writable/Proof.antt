@@ -66,7 +66,10 @@ alone-requires-2 : tie.Need-alone-requires-2
 alone-requires-2 c κs = search needs
 
 returns-2 : tie.Need-returns-2
-returns-2 c = c .alone2 .ensures ∙ run-long _ _ _ (rated (c .before .before)) (c .before .if2 .taken)
+returns-2 c =
+    let known = c .before .before in
+    c .alone2 .ensures
+    ∙ run-long _ _ (entered known .args .run) (rated known) (omega (arith, c .before .if2 .taken))
 
 alone-requires-3 : tie.Need-alone-requires-3
 alone-requires-3 c κs = search needs
