@@ -1,4 +1,6 @@
 // What every layer rests on: answers, the tests and the checks that they come of, bits, and bytes in a lent buffer.
+#![tactic(auto)]
+
 mod answer;
 mod bits;
 mod buffer;

@@ -1,13 +1,13 @@
 // The numbered tests of reading. Each looks at a size, at two bytes together, or at one byte; each kind has its tests in
 // the order of the rules.
-#[derive(Drop)]
+#[derive(Clone, Copy)]
 pub enum Test {
     Size(SizeTest),
     Pair(PairTest),
     Byte(ByteTest),
 }
 
-#[derive(Drop)]
+#[derive(Clone, Copy)]
 pub enum SizeTest {
     // 1.1: the room in the lent buffer.
     CaptionRoom,
@@ -33,7 +33,7 @@ pub enum SizeTest {
     FooterWhole,
 }
 
-#[derive(Drop)]
+#[derive(Clone, Copy)]
 pub enum PairTest {
     // 2.2: 96 69.
     Magic,
@@ -41,7 +41,7 @@ pub enum PairTest {
     FooterSequence,
 }
 
-#[derive(Drop)]
+#[derive(Clone, Copy)]
 pub enum ByteTest {
     // 3.1
     Rate,

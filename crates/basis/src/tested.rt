@@ -6,7 +6,7 @@ ghost use Rattle.basis.specs.Code as Code;
 use crate::answer::Answer;
 
 // The place is 0 beside answer 0. Each test says from which byte its places are counted.
-#[derive(Drop)]
+#[derive(Clone, Copy)]
 pub struct Outcome {
     pub answer: Answer,
     pub place: usize,
@@ -32,7 +32,7 @@ impl Outcome {
 
 // What testing a part of a packet gives. The size is how far a reader moves on behind the part: 0 where there is none,
 // and beside a refusal.
-#[derive(Drop)]
+#[derive(Clone, Copy)]
 pub struct Tested {
     pub answer: Answer,
     pub place: usize,

@@ -1,6 +1,8 @@
 // Makes one call again and again, on one reader, one writer or one service list, and prints what came of it. Two runs
 // that differ only in the number of turns give the cost of one; bench/run takes it. Standard input is R to read, W to
 // write a packet or S to write a section, the number of turns in four bytes, high byte first, and a packet.
+#![tactic(auto)]
+
 mod print;
 mod reading;
 mod sections;

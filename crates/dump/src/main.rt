@@ -1,5 +1,7 @@
 // Reads one packet from standard input and prints what is in it, or what is answered where it is refused. The files
 // stdin and stdout beside src/ are an example of both; cases/ has more.
+#![tactic(auto)]
+
 ghost use Rattle.std.specs.Prelude.{◌≡◌, length};
 ghost use Rattle.text_dump.specs.Dump.{dump_text, most_text};
 

@@ -1,4 +1,6 @@
 // Why a packet is refused: the test that it fails first, and what that test takes.
+#![tactic(auto)]
+
 mod rule;
 mod why;
 

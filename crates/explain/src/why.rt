@@ -10,14 +10,14 @@ use read_packet::Checked;
 use values::checksum_byte;
 
 // A test of a size, and the size that it asks for.
-#[derive(Drop)]
+#[derive(Clone, Copy)]
 pub struct FailedSize {
     pub test: SizeTest,
     pub bytes: usize,
 }
 
 // A test of two bytes, and the two that it asks for.
-#[derive(Drop)]
+#[derive(Clone, Copy)]
 pub struct FailedPair {
     pub test: PairTest,
     pub first: u8,
@@ -25,14 +25,14 @@ pub struct FailedPair {
 }
 
 // A test of one byte, and what the packet says that it is compared with: 0 where it is compared with nothing.
-#[derive(Drop)]
+#[derive(Clone, Copy)]
 pub struct FailedByte {
     pub test: ByteTest,
     pub said: u8,
 }
 
 // The test that a packet fails first.
-#[derive(Drop)]
+#[derive(Clone, Copy)]
 pub enum Reason {
     Accepted,
     OfSize(FailedSize),
@@ -41,7 +41,7 @@ pub enum Reason {
 }
 
 // The reader's answer and place, and the reason.
-#[derive(Drop)]
+#[derive(Clone, Copy)]
 pub struct Why {
     pub answer: Answer,
     pub place: usize,

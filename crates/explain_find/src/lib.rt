@@ -1,4 +1,6 @@
 // The test that a packet fails first: what the reader answers, and the place that it points at, leave one.
+#![tactic(auto)]
+
 mod find;
 mod layout;
 

@@ -1,4 +1,6 @@
 // The numbered tests of reading: the rule that each belongs to, and the values that those of one byte take.
+#![tactic(auto)]
+
 mod rule;
 mod taken;
 

@@ -6,7 +6,7 @@ use basis::Answer;
 use values::{Flags, Framerate, MaybeFramerate, Packet, sequence_count};
 
 // What reading gives: beside a refusal and its place, nothing.
-#[derive(Drop)]
+#[derive(Clone, Copy)]
 pub struct Header {
     pub answer: Answer,
     pub place: usize,

@@ -13,7 +13,7 @@ use values_time::MaybeTimeCode;
 
 // What reading gives: beside a refusal, nothing but the answer and the place. The list is left for the reader to make
 // when nothing is left that could refuse, so that no refusal and no packet without services copies one.
-#[derive(Drop)]
+#[derive(Clone, Copy)]
 pub struct Checked {
     // In front of the answer, as in CDPParserRead: so the compiler reads a packet in fewer instructions.
     pub place: usize,

@@ -9,7 +9,7 @@ use values_time::{MaybeTimeCode, TimeCode};
 
 // What reading gives: beside a refusal and its place, no time code. The size is how far a reader moves on: 0 without a
 // time code.
-#[derive(Drop)]
+#[derive(Clone, Copy)]
 pub struct TimeCodeSection {
     pub answer: Answer,
     pub place: usize,

@@ -1,4 +1,6 @@
 // The packet reader: parser.rs of the Rust.
+#![tactic(auto)]
+
 mod hand_out;
 mod list_made;
 mod packet_read;

@@ -9,7 +9,7 @@ use read_packet::Checked;
 
 // What reading gives: the answer and its place, what an accepted packet makes the reader show, and where its captions
 // stand. Beside a refusal, what a new reader shows.
-#[derive(Drop)]
+#[derive(Clone, Copy)]
 pub struct PacketRead {
     pub answer: Answer,
     pub place: usize,

@@ -14,7 +14,7 @@ use values::{MaybeFramerate, Packet};
 use values_time::MaybeTimeCode;
 
 // What the last accepted packet had. After a refusal only its service list is left.
-#[derive(Drop)]
+#[derive(Clone, Copy)]
 pub struct CDPParser {
     pub framerate: MaybeFramerate,
     pub time_code: MaybeTimeCode,
@@ -25,7 +25,7 @@ pub struct CDPParser {
 }
 
 // What reading gives: the answer, the place of the byte that is refused, and the reader as it is from then on.
-#[derive(Drop)]
+#[derive(Clone, Copy)]
 pub struct CDPParserRead {
     pub place: usize,
     pub answer: Answer,

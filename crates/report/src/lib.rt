@@ -1,4 +1,6 @@
 // What the programs that are compared with the Rust share.
+#![tactic(auto)]
+
 mod digest;
 mod lent;
 mod recipe;

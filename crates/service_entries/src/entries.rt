@@ -11,7 +11,7 @@ use service_entry::ServiceEntry;
 use values::Packet;
 
 // What reading gives: the entries in the first places, the filler in the others; beside a refusal and its place, in all.
-#[derive(Drop)]
+#[derive(Clone, Copy)]
 pub struct EntriesRead {
     pub answer: Answer,
     pub place: usize,

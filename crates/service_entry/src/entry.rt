@@ -7,14 +7,14 @@ ghost use Rattle.service_entry.specs.Service as Service;
 use crate::service::{DigitalServiceEntry, FieldOrService};
 use basis::Answer;
 
-#[derive(Drop)]
+#[derive(Clone, Copy)]
 pub struct ServiceEntry {
     pub language: [u8; 3],
     pub service: FieldOrService,
 }
 
 // What reading gives: beside a refusal, its place in the entry, and the filler.
-#[derive(Drop)]
+#[derive(Clone, Copy)]
 pub struct ServiceEntryRead {
     pub answer: Answer,
     pub place: usize,

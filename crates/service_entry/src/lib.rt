@@ -1,4 +1,6 @@
 // An entry of the service section: the first half of svc.rs of the Rust.
+#![tactic(auto)]
+
 mod entry;
 mod entry_writing;
 mod service;

@@ -2,14 +2,14 @@
 ghost use Rattle.std.specs.Prelude.{◌≡◌};
 ghost use Rattle.service_entry.specs.Service.{digital_entry};
 
-#[derive(Drop)]
+#[derive(Clone, Copy)]
 pub struct DigitalServiceEntry {
     pub service: u8,
     pub easy_reader: bool,
     pub wide_aspect_ratio: bool,
 }
 
-#[derive(Drop)]
+#[derive(Clone, Copy)]
 pub enum FieldOrService {
     // Field 1 is true, field 2 is false.
     Field(bool),

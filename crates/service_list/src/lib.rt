@@ -1,4 +1,6 @@
 // The service list and its section: the second half of svc.rs of the Rust.
+#![tactic(auto)]
+
 mod list;
 mod section;
 mod section_writing;

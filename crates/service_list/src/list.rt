@@ -8,7 +8,7 @@ use service_entries::fillers;
 use service_entry::ServiceEntry;
 use values::Packet;
 
-#[derive(Drop)]
+#[derive(Clone, Copy)]
 pub struct ServiceInfo {
     pub start: bool,
     pub change: bool,
@@ -18,7 +18,7 @@ pub struct ServiceInfo {
 }
 
 // A list that may be absent; then it is empty.
-#[derive(Drop)]
+#[derive(Clone, Copy)]
 pub struct MaybeServiceInfo {
     pub present: bool,
     pub service_info: ServiceInfo,
@@ -37,7 +37,7 @@ impl MaybeServiceInfo {
 }
 
 // What adding gives: beside a refusal, the list as it was.
-#[derive(Drop)]
+#[derive(Clone, Copy)]
 pub struct ServiceInfoAdded {
     pub answer: Answer,
     pub list: ServiceInfo,

@@ -9,7 +9,7 @@ use service_entries::read_entries;
 use service_entry::ServiceEntry;
 
 // What reading gives: beside a refusal, its place in the section, and the empty list.
-#[derive(Drop)]
+#[derive(Clone, Copy)]
 pub struct ServiceInfoRead {
     pub answer: Answer,
     pub place: usize,

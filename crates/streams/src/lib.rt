@@ -1,4 +1,6 @@
 // Standard input and standard output. Where one of them fails, one line on standard error says so, and the caller is told.
+#![tactic(auto)]
+
 mod input;
 mod output;
 

@@ -10,7 +10,7 @@ use reader::CDPParser;
 use text::byte;
 
 // Which byte is changed, whether the checksum is mended after it, and how many bytes follow the footer.
-#[derive(Drop)]
+#[derive(Clone, Copy)]
 pub struct Change {
     pub place: usize,
     pub mended: bool,

@@ -1,5 +1,7 @@
 // Sweeps the packet reader: every value of every byte of ten good packets, checksum mended and not. The file stdout
 // beside src/ is what the oracle prints for the same sweep.
+#![tactic(auto)]
+
 mod bytes;
 mod change;
 mod entry;

@@ -9,7 +9,7 @@ use report::{all_fed, feed, fill, two_fed};
 use std::num::wrapping_add_u64;
 
 // The digest over all packets read, and how many of them were accepted.
-#[derive(Drop)]
+#[derive(Clone, Copy)]
 pub struct Tally {
     pub digest: u64,
     pub accepted: u64,

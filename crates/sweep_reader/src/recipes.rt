@@ -3,7 +3,7 @@ ghost use Rattle.std.specs.Prelude.{◌≡◌};
 ghost use Rattle.sweep_reader.specs.Recipes as Recipes;
 
 // All that a packet is made from. Its number makes its hours, captions and languages its own.
-#[derive(Drop)]
+#[derive(Clone, Copy)]
 pub struct Recipe {
     pub number: u8,
     pub rate: u8,

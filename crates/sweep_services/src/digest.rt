@@ -6,7 +6,7 @@ ghost use Rattle.sweep_services.specs.Sweep as Sweep;
 use crate::{good, read};
 
 // What a digest goes over.
-#[derive(Drop)]
+#[derive(Clone, Copy)]
 enum Block {
     // Every byte 4 and byte 5 of an entry with this byte 3.
     Entries(u64),

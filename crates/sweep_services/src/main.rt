@@ -1,5 +1,7 @@
 // Sweeps the readers of entries and sections and prints a digest for each part. The file stdout beside src/ is what the
 // oracle prints for the same sweep.
+#![tactic(auto)]
+
 mod digest;
 mod good;
 mod lines;

@@ -7,7 +7,7 @@ use report::{all_fed, feed, two_fed};
 use values_time::TimeCode;
 
 // What a digest goes over.
-#[derive(Drop)]
+#[derive(Clone, Copy)]
 enum Block {
     // Every minute, second and frame of an hour, one past each limit included, with field and drop frame: what is
     // answered and, where it is done, the four bytes.

@@ -1,5 +1,7 @@
 // Sweeps the small spaces of the values layer and prints a line or a digest for each part. The file stdout beside src/
 // is what the oracle prints for the same sweep.
+#![tactic(auto)]
+
 mod digest;
 mod lines;
 

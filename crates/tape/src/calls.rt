@@ -7,7 +7,7 @@ use basis::Answer;
 use service_list::{ServiceEntry, ServiceInfo, ServiceInfoAdded};
 
 // A call as the tape spells it: its first letter, with a flag or an entry where it has one.
-#[derive(Drop)]
+#[derive(Clone, Copy)]
 struct CallWord {
     letter: u8,
     on: bool,
@@ -16,7 +16,7 @@ struct CallWord {
 }
 
 // What a call leaves, and where the printing goes on.
-#[derive(Drop)]
+#[derive(Clone, Copy)]
 struct Made {
     list: ServiceInfo,
     at: usize,

@@ -9,19 +9,19 @@ use service_list::MaybeServiceInfo;
 use values::Framerate;
 use values_time::{MaybeTimeCode, TimeCode};
 
-#[derive(Drop)]
+#[derive(Clone, Copy)]
 pub struct RateWord {
     pub framerate: Framerate,
     pub next: usize,
 }
 
-#[derive(Drop)]
+#[derive(Clone, Copy)]
 pub struct TimeWord {
     pub time_code: MaybeTimeCode,
     pub next: usize,
 }
 
-#[derive(Drop)]
+#[derive(Clone, Copy)]
 pub struct ServicesWord {
     pub service_info: MaybeServiceInfo,
     pub next: usize,

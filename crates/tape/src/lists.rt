@@ -7,13 +7,13 @@ use crate::words::{NOWHERE, byte, flag, mark, small};
 use service_entries::fillers;
 use service_list::{DigitalServiceEntry, FieldOrService, ServiceEntry, ServiceInfo};
 
-#[derive(Drop)]
+#[derive(Clone, Copy)]
 pub struct EntryWord {
     pub entry: ServiceEntry,
     pub next: usize,
 }
 
-#[derive(Drop)]
+#[derive(Clone, Copy)]
 pub struct ListWord {
     pub list: ServiceInfo,
     pub next: usize,

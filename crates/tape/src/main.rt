@@ -1,5 +1,7 @@
 // Reads a tape from standard input and prints its transcript; docs/TAPE.md has the form of both. The file stdout beside
 // src/ is what the oracle prints for the tape in the file stdin.
+#![tactic(auto)]
+
 mod calls;
 mod held;
 mod lent;
@@ -21,7 +23,7 @@ use crate::operation::State;
 use crate::print::FAILED;
 
 // What a part of the input leaves, and whether it was the last.
-#[derive(Drop)]
+#[derive(Clone, Copy)]
 struct PartRun {
     state: State,
     last: bool,

@@ -7,7 +7,7 @@ use reader::CDPParser;
 
 // What goes from line to line: how much there is of the line that is being read, where in the output buffer the next
 // byte goes, and the reader.
-#[derive(Drop)]
+#[derive(Clone, Copy)]
 pub struct State {
     pub length: usize,
     pub at: usize,

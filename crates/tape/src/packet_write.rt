@@ -10,7 +10,7 @@ use values_time::{MaybeTimeCode, TimeCode};
 use writer::CDPWriter;
 
 // The words of a line as far as the captions, which are put into the bytes that a line gives.
-#[derive(Drop)]
+#[derive(Clone, Copy)]
 struct FrontWords {
     room: usize,
     framerate: Framerate,

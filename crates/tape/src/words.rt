@@ -5,7 +5,7 @@ ghost use Rattle.tape.specs.Words as Words;
 
 pub const NOWHERE: usize = usize::MAX;
 
-#[derive(Drop)]
+#[derive(Clone, Copy)]
 pub struct NumberWord {
     pub value: u32,
     pub next: usize,
@@ -19,19 +19,19 @@ impl NumberWord {
 }
 
 // Digits, one after the other, with the number that they make.
-#[derive(Drop)]
+#[derive(Clone, Copy)]
 struct DigitsWord {
     value: u64,
     next: usize,
 }
 
-#[derive(Drop)]
+#[derive(Clone, Copy)]
 pub struct FlagWord {
     pub on: bool,
     pub next: usize,
 }
 
-#[derive(Drop)]
+#[derive(Clone, Copy)]
 pub struct ByteWord {
     pub value: u8,
     pub next: usize,
@@ -45,7 +45,7 @@ impl ByteWord {
 }
 
 // How many bytes a word gave.
-#[derive(Drop)]
+#[derive(Clone, Copy)]
 pub struct BytesWord {
     pub count: usize,
     pub next: usize,

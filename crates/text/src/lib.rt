@@ -1,5 +1,7 @@
 // Text in a lent buffer. A piece is put from a place on, as much of it as there is room for, and the place behind it is
 // given; a whole text is put only where all of it fits.
+#![tactic(auto)]
+
 mod answered;
 mod digits;
 mod room;

@@ -11,7 +11,7 @@ use reader::CDPParser;
 use text::{line, put_whole};
 
 // Its constants and its one call.
-#[derive(Drop)]
+#[derive(Clone, Copy)]
 pub struct Dump {}
 
 impl Dump {

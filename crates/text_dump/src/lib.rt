@@ -1,4 +1,6 @@
 // What is printed of a packet: one text, put into a lent buffer.
+#![tactic(auto)]
+
 mod captions;
 mod dump;
 mod lines;

@@ -1,4 +1,6 @@
 // What a test found in a packet, and what it takes there.
+#![tactic(auto)]
+
 mod bytes;
 mod limits;
 mod runs;

@@ -10,7 +10,7 @@ use explain_tests::takes;
 use text::hex;
 
 // What is held of the values looked at so far: whether a run is put, whether the last value was taken, and the last run.
-#[derive(Drop)]
+#[derive(Clone, Copy)]
 struct Scan {
     some: bool,
     going: bool,

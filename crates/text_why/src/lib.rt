@@ -1,4 +1,6 @@
 // What is printed of a packet: why it is refused, in one text that is put into a lent buffer.
+#![tactic(auto)]
+
 mod lines;
 mod whole;
 

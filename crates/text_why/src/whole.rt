@@ -11,7 +11,7 @@ use explain::Why;
 use text::{line, put_whole};
 
 // Its constants and its one call.
-#[derive(Drop)]
+#[derive(Clone, Copy)]
 pub struct WhyText {}
 
 impl WhyText {

@@ -1,1 +1,2 @@
 // No code: what is promised of the dump.
+#![tactic(auto)]

@@ -1,5 +1,7 @@
 // The round trip as one function, so that its arguments' types say what no test does: that a language has three bytes.
 // Nothing calls it.
+#![tactic(auto)]
+
 ghost use Rattle.theorem_round_trip.specs.Back.{WrittenAndRead};
 
 use reader::{CDPParser, CDPParserRead};

@@ -1,1 +1,2 @@
 // No code: the reason that is named is true, and the values that it gives are taken.
+#![tactic(auto)]

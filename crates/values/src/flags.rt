@@ -5,7 +5,7 @@ ghost use Rattle.values.specs.Code.{bits, no_flags};
 
 use basis::flag;
 
-#[derive(Drop)]
+#[derive(Clone, Copy)]
 pub struct Flags {
     pub time_code: bool,
     pub cc_data: bool,

@@ -2,7 +2,7 @@
 ghost use Rattle.std.specs.Prelude.{◌≡◌};
 ghost use Rattle.values.specs.Rate.{from_id, known, no_rate, present, row};
 
-#[derive(Drop)]
+#[derive(Clone, Copy)]
 pub struct Framerate {
     pub id: u8,
     pub numer: u32,
@@ -10,7 +10,7 @@ pub struct Framerate {
 }
 
 // A rate that may be absent; then it is zeros.
-#[derive(Drop)]
+#[derive(Clone, Copy)]
 pub struct MaybeFramerate {
     pub present: bool,
     pub framerate: Framerate,

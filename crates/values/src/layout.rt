@@ -3,7 +3,7 @@
 ghost use Rattle.std.specs.Prelude.{◌≡◌};
 ghost use Rattle.values.specs.Code.{layout_constants, layout_sizes};
 
-#[derive(Drop)]
+#[derive(Clone, Copy)]
 pub struct Packet {}
 
 impl Packet {

@@ -1,4 +1,6 @@
 // The values of a caption distribution packet: what lib.rs of the Rust has, without answers and time codes.
+#![tactic(auto)]
+
 mod checksum;
 mod flags;
 mod framerate;

@@ -5,7 +5,7 @@ ghost use Rattle.values_time.specs.Code as Code;
 
 use basis::{Answer, flag};
 
-#[derive(Drop)]
+#[derive(Clone, Copy)]
 pub struct TimeCode {
     pub hours: u8,
     pub minutes: u8,
@@ -16,7 +16,7 @@ pub struct TimeCode {
 }
 
 // A time code that may be absent; then it is zeros.
-#[derive(Drop)]
+#[derive(Clone, Copy)]
 pub struct MaybeTimeCode {
     pub present: bool,
     pub time_code: TimeCode,
@@ -37,7 +37,7 @@ impl MaybeTimeCode {
 }
 
 // What reading gives: beside a refusal, its place among the four bytes, and no time code.
-#[derive(Drop)]
+#[derive(Clone, Copy)]
 pub struct TimeCodeRead {
     pub answer: Answer,
     pub place: usize,
@@ -45,7 +45,7 @@ pub struct TimeCodeRead {
 }
 
 // What making the bytes gives: beside a refusal, zeros.
-#[derive(Drop)]
+#[derive(Clone, Copy)]
 pub struct TimeCodeWritten {
     pub answer: Answer,
     pub bytes: [u8; 4],

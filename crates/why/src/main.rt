@@ -1,5 +1,7 @@
 // Reads one packet from standard input and prints why it is refused, or that it is accepted. The files stdin and stdout
 // beside src/ are an example of both; cases/ has more.
+#![tactic(auto)]
+
 ghost use Rattle.std.specs.Prelude.{◌≡◌, length};
 ghost use Rattle.text_why.specs.Explained.{why_most_text, why_text};
 

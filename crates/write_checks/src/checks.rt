@@ -8,7 +8,7 @@ use values_time::MaybeTimeCode;
 
 // What testing something that is to be written gives: the answer, its length, and the time code's four bytes, which the
 // test makes. The length is 0 where it is not held, and beside a refusal; the bytes are zeros there.
-#[derive(Drop)]
+#[derive(Clone, Copy)]
 pub struct WriteTested {
     pub answer: Answer,
     pub length: usize,

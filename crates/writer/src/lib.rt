@@ -1,4 +1,6 @@
 // The packet writer: writer.rs of the Rust.
+#![tactic(auto)]
+
 mod writer;
 
 pub use writer::{CDPWriter, CDPWriterSet};

@@ -10,7 +10,7 @@ use values_time::MaybeTimeCode;
 use write_bytes::write_packet;
 
 // What goes into the next packets, until it is set anew: writing changes none of it.
-#[derive(Drop)]
+#[derive(Clone, Copy)]
 pub struct CDPWriter {
     pub time_code: MaybeTimeCode,
     pub service_info: MaybeServiceInfo,
@@ -18,7 +18,7 @@ pub struct CDPWriter {
 }
 
 // What setting a list gives: beside a refusal, the writer as it was.
-#[derive(Drop)]
+#[derive(Clone, Copy)]
 pub struct CDPWriterSet {
     pub answer: Answer,
     pub writer: CDPWriter,
