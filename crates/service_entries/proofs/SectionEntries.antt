@@ -30,7 +30,7 @@ use Rattle.basis.proofs.Verdicts.{
 }
 use Rattle.basis.specs.Answer.{LengthMismatch, WrongMagic, InvalidFixedBits, ServiceNumberMismatch, done, refused}
 use Rattle.basis.specs.Bytes.{byte}
-use Rattle.basis.specs.Check.{Verdict, clear, moved, verdict, answer, place_of, if_clear}
+use Rattle.basis.specs.Check.{Verdict, clear, moved, verdict, place_of, if_clear}
 use Rattle.basis.specs.Code.{outcome, outcome_at}
 use Rattle.values.specs.Layout.{services_id, section_length, section_entry_size}
 use Rattle.service_entry.specs.Entry.{entry_checks, entry_of, entry_read}
