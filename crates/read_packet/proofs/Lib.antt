@@ -1,3 +1,4 @@
 pub mod Answers
 pub mod PacketReads
 mod PacketAsked
+mod PacketParts
