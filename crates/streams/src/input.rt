@@ -1,7 +1,8 @@
 // Standard input.
 ghost use Rattle.io.specs.Counts.{IsPrefixLen};
 
-use libc::{STDERR_FILENO, STDIN_FILENO};
+use std::io;
+use std::io::Read;
 
 // How many bytes were put at the start of a buffer, and whether a read failed behind them.
 #[derive(Clone, Copy)]
@@ -11,12 +12,12 @@ pub struct Input {
 }
 
 // Reads until the buffer is full, the input ends or a read fails; a pipe hands out its bytes in parts.
-pub fn read_all(buf: &mut [u8]) -> Input
+pub fn read_all(rt: &(impl io::Input + Eprint), buf: &mut [u8]) -> Input
     ensures { IsPrefixLen result.count buf.new }
 {
     let mut count = 0;
     while count < buf.len() {
-        let part = read_part(&mut buf[count..]);
+        let part = read_part(rt, &mut buf[count..]);
         if part.count == 0 {
             return Input {
                 count,
@@ -32,16 +33,21 @@ pub fn read_all(buf: &mut [u8]) -> Input
 }
 
 // Reads once. Nothing is read where the input has ended, and where the read fails.
-pub fn read_part(buf: &mut [u8]) -> Input
+pub fn read_part(rt: &(impl io::Input + Eprint), buf: &mut [u8]) -> Input
     ensures { IsPrefixLen result.count buf.new }
 {
-    let got = libc::read(STDIN_FILENO, buf);
-    let failed = got < 0;
-    if failed {
-        io::write_all(STDERR_FILENO, b"standard input could not be read\n");
-    }
-    Input {
-        count: io::count(got, buf),
-        failed,
+    match rt.reader().read(buf) {
+        Ok(got) => Input {
+            count: got,
+            failed: false,
+        },
+        Err(_) => {
+            // Where this line cannot be written either, nothing is left to be told.
+            let _ = rt.eprintln("standard input could not be read");
+            Input {
+                count: 0,
+                failed: true,
+            }
+        }
     }
 }

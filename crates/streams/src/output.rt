@@ -1,19 +1,19 @@
 // Standard output.
-use libc::{STDERR_FILENO, STDOUT_FILENO};
 
 // Writes a text in one call, and answers whether all of it was written.
-pub fn write(text: &[u8]) -> bool {
-    if io::write_all(STDOUT_FILENO, text) {
+pub fn write(rt: &(impl Print + Eprint), text: &[u8]) -> bool {
+    if rt.write_all(text).is_ok() {
         return true;
     }
-    io::write_all(STDERR_FILENO, b"standard output could not be written\n");
+    // Where this line cannot be written either, nothing is left to be told.
+    let _ = rt.eprintln("standard output could not be written");
     false
 }
 
 // Writes the first bytes of a buffer, all of it where it has no more.
-pub fn write_first(buffer: &[u8], end: usize) -> bool {
+pub fn write_first(rt: &(impl Print + Eprint), buffer: &[u8], end: usize) -> bool {
     if buffer.len() < end {
-        return write(buffer);
+        return write(rt, buffer);
     }
-    write(&buffer[0..end])
+    write(rt, &buffer[0..end])
 }
