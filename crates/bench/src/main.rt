@@ -14,31 +14,31 @@ use values::Packet;
 // What stands in front of the packet.
 const FRONT: usize = 5;
 
-fn main() {
+fn main(rt: HostRuntime) {
     let mut input = [0u8; FRONT + 255];
     let mut captions = [0u8; CDPParser::CAPTION_ROOM];
     let mut out = [0u8; 255];
-    run(&mut input, &mut captions, &mut out);
+    run(&rt, &mut input, &mut captions, &mut out);
 }
 
 // Of an input that cannot be read nothing is run.
-fn run(input: &mut [u8], captions: &mut [u8], out: &mut [u8]) {
-    let read = streams::read_all(input);
+fn run(rt: &(impl Input + Print + Eprint), input: &mut [u8], captions: &mut [u8], out: &mut [u8]) {
+    let read = streams::read_all(rt, input);
     if read.failed {
         return;
     }
     let count = read.count;
     if count < FRONT + Packet::MIN_PACKET_LEN {
-        streams::write(b"input too short\n");
+        streams::write(rt, b"input too short\n");
         return;
     }
     let turns = number(input[1], input[2], input[3], input[4]);
     if input[0] == b'W' {
-        writing::turns(&input[FRONT..count], turns, captions, out);
+        writing::turns(rt, &input[FRONT..count], turns, captions, out);
     } else if input[0] == b'S' {
-        sections::turns(&input[FRONT..count], turns, captions, out);
+        sections::turns(rt, &input[FRONT..count], turns, captions, out);
     } else {
-        reading::turns(&mut input[FRONT..count], turns, captions);
+        reading::turns(rt, &mut input[FRONT..count], turns, captions);
     }
 }
 

@@ -5,7 +5,7 @@ use std::num::{wrapping_add_u8, wrapping_add_u64};
 use values::Packet;
 
 // No turn reads the same packet as the one before.
-pub fn turns(packet: &mut [u8], turns: u64, captions: &mut [u8]) {
+pub fn turns(rt: &(impl Print + Eprint), packet: &mut [u8], turns: u64, captions: &mut [u8]) {
     let mut parser = CDPParser::new();
     let mut answers = 0;
     let mut length = 0;
@@ -18,16 +18,26 @@ pub fn turns(packet: &mut [u8], turns: u64, captions: &mut [u8]) {
         length = read.answer.first;
         left -= 1;
     }
-    shown(answers, length, parser, captions);
+    shown(rt, answers, length, parser, captions);
 }
 
 // Behind a line that cannot be written there are no others.
-fn shown(answers: u64, length: usize, parser: CDPParser, captions: &[u8]) -> bool {
-    print::number(b"answers ", answers)
-        && print::number(b"length ", length as u64)
-        && print::number(b"sequence ", parser.sequence as u64)
-        && print::number(b"services ", parser.service_info.service_info.count as u64)
-        && print::sum(b"captions ", captions)
+fn shown(
+    rt: &(impl Print + Eprint),
+    answers: u64,
+    length: usize,
+    parser: CDPParser,
+    captions: &[u8],
+) -> bool {
+    print::number(rt, b"answers ", answers)
+        && print::number(rt, b"length ", length as u64)
+        && print::number(rt, b"sequence ", parser.sequence as u64)
+        && print::number(
+            rt,
+            b"services ",
+            parser.service_info.service_info.count as u64,
+        )
+        && print::sum(rt, b"captions ", captions)
 }
 
 // The next sequence in header and footer; the checksum changes with it, so that a right one stays right and a wrong one

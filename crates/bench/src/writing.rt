@@ -6,19 +6,32 @@ use values::Framerate;
 use writer::CDPWriter;
 
 // The packet is read once. Its captions stand behind the two bytes that a reader puts in front of them.
-pub fn turns(packet: &[u8], turns: u64, captions: &mut [u8], out: &mut [u8]) {
+pub fn turns(
+    rt: &(impl Print + Eprint),
+    packet: &[u8],
+    turns: u64,
+    captions: &mut [u8],
+    out: &mut [u8],
+) {
     let read = CDPParser::new().parse(packet, captions);
     let length = read.answer.first;
     let parser = read.parser;
     if length < 2 {
-        streams::write(b"no captions\n");
+        streams::write(rt, b"no captions\n");
         return;
     }
     if captions.len() < length {
         return;
     }
     let framerate = parser.framerate.framerate;
-    write(holding(parser), framerate, turns, &captions[2..length], out);
+    write(
+        rt,
+        holding(parser),
+        framerate,
+        turns,
+        &captions[2..length],
+        out,
+    );
 }
 
 fn holding(parser: CDPParser) -> CDPWriter {
@@ -30,7 +43,14 @@ fn holding(parser: CDPParser) -> CDPWriter {
 }
 
 // Each turn has the next sequence.
-fn write(first: CDPWriter, framerate: Framerate, turns: u64, captions: &[u8], out: &mut [u8]) {
+fn write(
+    rt: &(impl Print + Eprint),
+    first: CDPWriter,
+    framerate: Framerate,
+    turns: u64,
+    captions: &[u8],
+    out: &mut [u8],
+) {
     let mut writer = first;
     let mut answers = 0;
     let mut length = 0;
@@ -40,12 +60,12 @@ fn write(first: CDPWriter, framerate: Framerate, turns: u64, captions: &[u8], ou
         answers = wrapping_add_u64(answers, answer.number as u64);
         length = answer.first;
     }
-    shown(answers, length, out);
+    shown(rt, answers, length, out);
 }
 
 // Behind a line that cannot be written there are no others.
-fn shown(answers: u64, length: usize, packet: &[u8]) -> bool {
-    print::number(b"answers ", answers)
-        && print::number(b"length ", length as u64)
-        && print::sum(b"packet ", packet)
+fn shown(rt: &(impl Print + Eprint), answers: u64, length: usize, packet: &[u8]) -> bool {
+    print::number(rt, b"answers ", answers)
+        && print::number(rt, b"length ", length as u64)
+        && print::sum(rt, b"packet ", packet)
 }

@@ -8,35 +8,35 @@ ghost use Rattle.text_dump.specs.Dump.{dump_text, most_text};
 use text_dump::Dump;
 
 // The buffer for the input has one byte more than is taken, which shows that there are too many.
-fn main() {
+fn main(rt: HostRuntime) {
     let mut input = [0u8; Dump::MOST_INPUT + 1];
     let mut text = [0u8; Dump::MOST_TEXT];
-    dump(&mut input, &mut text);
+    dump(&rt, &mut input, &mut text);
 }
 
 // Of an input that cannot be read to its end nothing is printed.
-fn dump(input: &mut [u8], text: &mut [u8])
+fn dump(rt: &(impl Input + Print + Eprint), input: &mut [u8], text: &mut [u8])
     requires { length text.old ≡ most_text }
 {
-    let read = streams::read_all(input);
+    let read = streams::read_all(rt, input);
     if read.failed {
         return;
     }
     let count = read.count;
-    print(&input[..count], text);
+    print(rt, &input[..count], text);
 }
 
-fn print(input: &[u8], text: &mut [u8])
+fn print(rt: &(impl Print + Eprint), input: &[u8], text: &mut [u8])
     requires { length text.old ≡ most_text }
 {
     let answer = Dump::write_into(input, text);
     let length = answer.first;
-    hand_on(input, &text[..length]);
+    hand_on(rt, input, &text[..length]);
 }
 
 // What is written is the text of what was read, all of it and nothing else: whoever calls this has to show it.
-fn hand_on(input: &[u8], text: &[u8])
+fn hand_on(rt: &(impl Print + Eprint), input: &[u8], text: &[u8])
     requires { text.now ≡ dump_text input.now }
 {
-    streams::write(text);
+    streams::write(rt, text);
 }

@@ -8,6 +8,7 @@ use text::{byte, flag, number};
 
 // Whether all of them were written; behind one that was not there are no others.
 pub fn places(
+    rt: &(impl Print + Eprint),
     held: CDPParser,
     recipe: Recipe,
     packet: &mut [u8],
@@ -15,10 +16,10 @@ pub fn places(
     out: &mut [u8],
 ) -> bool {
     for place in 0..packet.len() {
-        if !line(held, recipe, packet, place, false, captions, out) {
+        if !line(rt, held, recipe, packet, place, false, captions, out) {
             return false;
         }
-        if !line(held, recipe, packet, place, true, captions, out) {
+        if !line(rt, held, recipe, packet, place, true, captions, out) {
             return false;
         }
     }
@@ -27,6 +28,7 @@ pub fn places(
 
 // The packet is good again before each line.
 fn line(
+    rt: &(impl Print + Eprint),
     held: CDPParser,
     recipe: Recipe,
     packet: &mut [u8],
@@ -42,15 +44,21 @@ fn line(
         behind: recipe.behind,
     };
     let tally = values(held, packet, change, captions);
-    written(out, recipe.number, change, tally)
+    written(rt, out, recipe.number, change, tally)
 }
 
-fn written(out: &mut [u8], packet: u8, change: Change, tally: Tally) -> bool {
+fn written(
+    rt: &(impl Print + Eprint),
+    out: &mut [u8],
+    packet: u8,
+    change: Change,
+    tally: Tally,
+) -> bool {
     let named = number(out, 0, b"packet ", packet as u64);
     let placed = number(out, named, b" ", change.place as u64);
     let mended = flag(out, placed, b" ", change.mended);
     let digest = number(out, mended, b" ", tally.digest);
     let accepted = number(out, digest, b" ", tally.accepted);
     let end = byte(out, accepted, b'\n');
-    streams::write_first(out, end)
+    streams::write_first(rt, out, end)
 }

@@ -17,16 +17,16 @@ use reader::CDPParser;
 
 // All buffers are made here, once, and lent from here on: the packet's, the captions' with the least room that a reader
 // takes, and a line's.
-fn main() {
+fn main(rt: HostRuntime) {
     let mut room = [0u8; 256];
     let mut captions = [0u8; 95];
     let mut out = [0u8; 64];
-    sweep(&mut room, &mut captions, &mut out);
+    sweep(&rt, &mut room, &mut captions, &mut out);
 }
 
 // Packet 0 is read first, and each other one by a reader that holds what it left, so that what a refusal keeps and what
 // it clears shows.
-fn sweep(room: &mut [u8], captions: &mut [u8], out: &mut [u8]) {
+fn sweep(rt: &(impl Print + Eprint), room: &mut [u8], captions: &mut [u8], out: &mut [u8]) {
     let size = make::packet(room, Recipe::new(0));
     // The room is enough for all of them.
     if room.len() < size {
@@ -34,13 +34,19 @@ fn sweep(room: &mut [u8], captions: &mut [u8], out: &mut [u8]) {
     }
     let first = CDPParser::new().parse(&room[0..size], captions);
     let held = first.parser;
-    packets(held, room, captions, out);
+    packets(rt, held, room, captions, out);
 }
 
 // Behind a line that cannot be written there are no others.
-fn packets(held: CDPParser, room: &mut [u8], captions: &mut [u8], out: &mut [u8]) {
+fn packets(
+    rt: &(impl Print + Eprint),
+    held: CDPParser,
+    room: &mut [u8],
+    captions: &mut [u8],
+    out: &mut [u8],
+) {
     for number in 1..11 {
-        if !packet(held, number, room, captions, out) {
+        if !packet(rt, held, number, room, captions, out) {
             return;
         }
     }
@@ -48,6 +54,7 @@ fn packets(held: CDPParser, room: &mut [u8], captions: &mut [u8], out: &mut [u8]
 
 // From here on the lent packet is as long as the one that is made.
 fn packet(
+    rt: &(impl Print + Eprint),
     held: CDPParser,
     number: u8,
     room: &mut [u8],
@@ -59,5 +66,5 @@ fn packet(
     if room.len() < size {
         return false;
     }
-    lines::places(held, recipe, &mut room[0..size], captions, out)
+    lines::places(rt, held, recipe, &mut room[0..size], captions, out)
 }

@@ -3,39 +3,39 @@ use crate::digest;
 use text::{byte, hex, number};
 
 // All entries with one byte 3.
-pub fn entry(out: &mut [u8], kind: u64) -> bool {
+pub fn entry(rt: &(impl Print + Eprint), out: &mut [u8], kind: u64) -> bool {
     let named = hex(out, 0, b"entry ", (kind % 256) as u8);
-    written(out, named, digest::entries(kind))
+    written(rt, out, named, digest::entries(kind))
 }
 
 // All bytes 3 of an entry behind one header byte.
-pub fn header(out: &mut [u8], header: u64) -> bool {
+pub fn header(rt: &(impl Print + Eprint), out: &mut [u8], header: u64) -> bool {
     let named = hex(out, 0, b"header ", (header % 256) as u8);
-    written(out, named, digest::headers(header))
+    written(rt, out, named, digest::headers(header))
 }
 
 // All values of one byte of a good section.
-pub fn section(out: &mut [u8], count: u64, place: u64) -> bool {
+pub fn section(rt: &(impl Print + Eprint), out: &mut [u8], count: u64, place: u64) -> bool {
     let named = number(out, 0, b"section ", count);
     let placed = number(out, named, b" ", place);
-    written(out, placed, digest::place(count, place))
+    written(rt, out, placed, digest::place(count, place))
 }
 
 // A good section cut, whole, and with up to eight zeros behind.
-pub fn size(out: &mut [u8], count: u64) -> bool {
+pub fn size(rt: &(impl Print + Eprint), out: &mut [u8], count: u64) -> bool {
     let named = number(out, 0, b"size ", count);
-    written(out, named, digest::sizes(count))
+    written(rt, out, named, digest::sizes(count))
 }
 
 // One byte 1 with as many good entries as it counts.
-pub fn byte1(out: &mut [u8], byte: u64) -> bool {
+pub fn byte1(rt: &(impl Print + Eprint), out: &mut [u8], byte: u64) -> bool {
     let named = hex(out, 0, b"byte1 ", (byte % 256) as u8);
-    written(out, named, digest::second_byte(byte))
+    written(rt, out, named, digest::second_byte(byte))
 }
 
 // Puts the digest, ends the line and writes it.
-fn written(out: &mut [u8], at: usize, digest: u64) -> bool {
+fn written(rt: &(impl Print + Eprint), out: &mut [u8], at: usize, digest: u64) -> bool {
     let shown = number(out, at, b" ", digest);
     let end = byte(out, shown, b'\n');
-    streams::write_first(out, end)
+    streams::write_first(rt, out, end)
 }

@@ -8,38 +8,38 @@ mod lines;
 mod read;
 
 // The buffer is made here, once, and has room for any line.
-fn main() {
+fn main(rt: HostRuntime) {
     let mut out = [0u8; 64];
-    sweep(&mut out);
+    sweep(&rt, &mut out);
 }
 
 // Behind a line that cannot be written there are no others.
-fn sweep(out: &mut [u8]) {
+fn sweep(rt: &(impl Print + Eprint), out: &mut [u8]) {
     for at in 0..800 {
-        if !part(out, at) {
+        if !part(rt, out, at) {
             return;
         }
     }
 }
 
 // 256 bytes 3 of an entry, 256 header bytes, the places and then the sizes of 16 sections, 256 bytes 1 of a section.
-fn part(out: &mut [u8], at: u64) -> bool {
+fn part(rt: &(impl Print + Eprint), out: &mut [u8], at: u64) -> bool {
     if at < 256 {
-        lines::entry(out, at)
+        lines::entry(rt, out, at)
     } else if at < 512 {
-        lines::header(out, at - 256)
+        lines::header(rt, out, at - 256)
     } else if at < 528 {
-        places(out, at - 512)
+        places(rt, out, at - 512)
     } else if at < 544 {
-        lines::size(out, at - 528)
+        lines::size(rt, out, at - 528)
     } else {
-        lines::byte1(out, at - 544)
+        lines::byte1(rt, out, at - 544)
     }
 }
 
-fn places(out: &mut [u8], count: u64) -> bool {
+fn places(rt: &(impl Print + Eprint), out: &mut [u8], count: u64) -> bool {
     for place in 0..good::size(count) {
-        if !lines::section(out, count, place) {
+        if !lines::section(rt, out, count, place) {
             return false;
         }
     }

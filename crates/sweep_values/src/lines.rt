@@ -4,11 +4,11 @@ use text::{byte, flag, hex, number, word};
 use values::{Flags, Framerate, MaybeFramerate};
 use values_time::{TimeCode, TimeCodeRead};
 
-pub fn rate(out: &mut [u8], id: u64) -> bool {
+pub fn rate(rt: &(impl Print + Eprint), out: &mut [u8], id: u64) -> bool {
     let found = Framerate::from_id((id % 256) as u8);
     let named = number(out, 0, b"rate ", id);
     let shown = maybe_rate(out, named, found);
-    written(out, shown)
+    written(rt, out, shown)
 }
 
 fn maybe_rate(out: &mut [u8], at: usize, found: MaybeFramerate) -> usize {
@@ -20,7 +20,7 @@ fn maybe_rate(out: &mut [u8], at: usize, found: MaybeFramerate) -> usize {
     number(out, numer, b"/", found.framerate.denom as u64)
 }
 
-pub fn flags(out: &mut [u8], byte: u64) -> bool {
+pub fn flags(rt: &(impl Print + Eprint), out: &mut [u8], byte: u64) -> bool {
     let b = (byte % 256) as u8;
     let f = Flags::from_byte(b);
     let named = hex(out, 0, b"flags ", b);
@@ -33,7 +33,7 @@ pub fn flags(out: &mut [u8], byte: u64) -> bool {
         f.svc_info_complete,
     );
     let active = flag(out, services, b" ", f.caption_service_active);
-    written(out, active)
+    written(rt, out, active)
 }
 
 fn three(out: &mut [u8], at: usize, a: bool, b: bool, c: bool) -> usize {
@@ -42,7 +42,7 @@ fn three(out: &mut [u8], at: usize, a: bool, b: bool, c: bool) -> usize {
     flag(out, second, b" ", c)
 }
 
-pub fn made(out: &mut [u8], six: u64) -> bool {
+pub fn made(rt: &(impl Print + Eprint), out: &mut [u8], six: u64) -> bool {
     let f = Flags {
         time_code: six / 32 % 2 == 1,
         cc_data: six / 16 % 2 == 1,
@@ -54,11 +54,11 @@ pub fn made(out: &mut [u8], six: u64) -> bool {
     };
     let named = number(out, 0, b"made ", six);
     let shown = hex(out, named, b" ", f.to_byte());
-    written(out, shown)
+    written(rt, out, shown)
 }
 
 // The byte at / 256 of a time code that is otherwise zero takes each value.
-pub fn time(out: &mut [u8], at: u64) -> bool {
+pub fn time(rt: &(impl Print + Eprint), out: &mut [u8], at: u64) -> bool {
     let place = (at / 256 % 4) as usize;
     let byte = (at % 256) as u8;
     let mut bytes = [0xC0u8, 0x80, 0, 0];
@@ -67,7 +67,7 @@ pub fn time(out: &mut [u8], at: u64) -> bool {
     let named = number(out, 0, b"time ", at / 256);
     let changed = hex(out, named, b" ", byte);
     let shown = maybe_time(out, changed, read);
-    written(out, shown)
+    written(rt, out, shown)
 }
 
 fn maybe_time(out: &mut [u8], at: usize, read: TimeCodeRead) -> usize {
@@ -89,21 +89,21 @@ fn clock(out: &mut [u8], at: usize, time: TimeCode) -> usize {
 }
 
 // A digest of all that is written for one hour.
-pub fn write(out: &mut [u8], hours: u64) -> bool {
+pub fn write(rt: &(impl Print + Eprint), out: &mut [u8], hours: u64) -> bool {
     let named = number(out, 0, b"write ", hours);
     let shown = number(out, named, b" ", digest::times(hours));
-    written(out, shown)
+    written(rt, out, shown)
 }
 
 // A digest of all sequences with one high byte.
-pub fn sequence(out: &mut [u8], high: u64) -> bool {
+pub fn sequence(rt: &(impl Print + Eprint), out: &mut [u8], high: u64) -> bool {
     let named = hex(out, 0, b"sequence ", (high % 256) as u8);
     let shown = number(out, named, b" ", digest::sequences(high));
-    written(out, shown)
+    written(rt, out, shown)
 }
 
 // Ends the line and writes it.
-fn written(out: &mut [u8], at: usize) -> bool {
+fn written(rt: &(impl Print + Eprint), out: &mut [u8], at: usize) -> bool {
     let end = byte(out, at, b'\n');
-    streams::write_first(out, end)
+    streams::write_first(rt, out, end)
 }

@@ -6,33 +6,33 @@ mod digest;
 mod lines;
 
 // The buffer is made here, once, and has room for any line.
-fn main() {
+fn main(rt: HostRuntime) {
     let mut out = [0u8; 64];
-    sweep(&mut out);
+    sweep(&rt, &mut out);
 }
 
 // Behind a line that cannot be written there are no others.
-fn sweep(out: &mut [u8]) {
+fn sweep(rt: &(impl Print + Eprint), out: &mut [u8]) {
     for at in 0..1897 {
-        if !line(out, at) {
+        if !line(rt, out, at) {
             return;
         }
     }
 }
 
 // 256 rate ids, 256 flag bytes read, 64 made, 4 times 256 time bytes read, 41 hours written, 256 high sequence bytes.
-fn line(out: &mut [u8], at: u64) -> bool {
+fn line(rt: &(impl Print + Eprint), out: &mut [u8], at: u64) -> bool {
     if at < 256 {
-        lines::rate(out, at)
+        lines::rate(rt, out, at)
     } else if at < 512 {
-        lines::flags(out, at - 256)
+        lines::flags(rt, out, at - 256)
     } else if at < 576 {
-        lines::made(out, at - 512)
+        lines::made(rt, out, at - 512)
     } else if at < 1600 {
-        lines::time(out, at - 576)
+        lines::time(rt, out, at - 576)
     } else if at < 1641 {
-        lines::write(out, at - 1600)
+        lines::write(rt, out, at - 1600)
     } else {
-        lines::sequence(out, at - 1641)
+        lines::sequence(rt, out, at - 1641)
     }
 }

@@ -23,16 +23,16 @@ struct Made {
 }
 
 // The whole line is looked at first, so that a malformed one prints nothing else.
-pub fn calls(line: &[u8], out: &mut [u8], at: usize) -> usize {
+pub fn calls(rt: &(impl Print + Eprint), line: &[u8], out: &mut [u8], at: usize) -> usize {
     let first = words::operands(line);
     if !well_formed(line, first) {
-        return malformed(out, at);
+        return malformed(rt, out, at);
     }
-    let letter = word(out, at, b"T");
-    let made = make(line, first, out, letter);
+    let letter = word(rt, out, at, b"T");
+    let made = make(rt, line, first, out, letter);
     let list = made.list;
-    let named = word(out, made.at, b" len ");
-    show::answer(out, named, list.byte_len())
+    let named = word(rt, out, made.at, b" len ");
+    show::answer(rt, out, named, list.byte_len())
 }
 
 // A line has fewer calls than bytes.
@@ -51,13 +51,13 @@ fn well_formed(line: &[u8], first: usize) -> bool {
     false
 }
 
-fn make(line: &[u8], first: usize, out: &mut [u8], to: usize) -> Made {
+fn make(rt: &(impl Print + Eprint), line: &[u8], first: usize, out: &mut [u8], to: usize) -> Made {
     let list = ServiceInfo::default();
     let mut made = Made { list, at: to };
     let mut at = first;
     for k in 0..line.len() {
         let found = call(line, at);
-        made = one(found, made, out);
+        made = one(rt, found, made, out);
         at = words::mark(line, found.next, b',');
         if at == NOWHERE {
             return made;
@@ -67,18 +67,18 @@ fn make(line: &[u8], first: usize, out: &mut [u8], to: usize) -> Made {
 }
 
 // Makes one call and prints its answer and the list.
-fn one(call: CallWord, made: Made, out: &mut [u8]) -> Made {
+fn one(rt: &(impl Print + Eprint), call: CallWord, made: Made, out: &mut [u8]) -> Made {
     let before = made.list;
     let added = answered(call, before);
     let answer = added.answer;
     let list = added.list;
-    let parted = word(out, made.at, b" ");
-    let shown = show::answer(out, parted, answer);
-    let parted2 = word(out, shown, b" ");
-    let listed = show::list(out, parted2, list);
+    let parted = word(rt, out, made.at, b" ");
+    let shown = show::answer(rt, out, parted, answer);
+    let parted2 = word(rt, out, shown, b" ");
+    let listed = show::list(rt, out, parted2, list);
     Made {
         list,
-        at: word(out, listed, b" |"),
+        at: word(rt, out, listed, b" |"),
     }
 }
 

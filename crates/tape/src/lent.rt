@@ -17,7 +17,7 @@ pub fn room(line: &[u8]) -> NumberWord
 }
 
 // All of them are printed, written or not.
-pub fn show(out: &mut [u8], at: usize, lent: &[u8]) -> usize {
-    let named = word(out, at, b" buf ");
-    print::bytes(out, named, lent)
+pub fn show(rt: &(impl Print + Eprint), out: &mut [u8], at: usize, lent: &[u8]) -> usize {
+    let named = word(rt, out, at, b" buf ");
+    print::bytes(rt, out, named, lent)
 }

@@ -31,23 +31,31 @@ struct PartRun {
 
 // All buffers are made here, once, and lent from here on: a part of the input, a line, the bytes that a line gives, the
 // bytes that a line lends, and what is to be printed. A longer line than the buffer's is malformed.
-fn main() {
+fn main(rt: HostRuntime) {
     let mut part = [0u8; 16384];
     let mut line = [0u8; 65536];
     let mut given = [0u8; 4096];
     let mut lent = [0u8; 4096];
     let mut out = [0u8; 16384];
-    tape(&mut part, &mut line, &mut given, &mut lent, &mut out);
+    tape(&rt, &mut part, &mut line, &mut given, &mut lent, &mut out);
 }
 
-fn tape(part: &mut [u8], line: &mut [u8], given: &mut [u8], lent: &mut [u8], out: &mut [u8]) {
-    let s = parts(part, line, given, lent, out, State::first());
-    let last = ended(line, given, lent, out, s);
-    print::flush(out, last.at);
+fn tape(
+    rt: &(impl Input + Print + Eprint),
+    part: &mut [u8],
+    line: &mut [u8],
+    given: &mut [u8],
+    lent: &mut [u8],
+    out: &mut [u8],
+) {
+    let s = parts(rt, part, line, given, lent, out, State::first());
+    let last = ended(rt, line, given, lent, out, s);
+    print::flush(rt, out, last.at);
 }
 
 // Nothing says that the input ends, so the turns are counted down from a number that no run uses up.
 fn parts(
+    rt: &(impl Input + Print + Eprint),
     part: &mut [u8],
     line: &mut [u8],
     given: &mut [u8],
@@ -58,7 +66,7 @@ fn parts(
     let mut s = first;
     let mut turns = u64::MAX;
     while turns > 0 {
-        let done = turn(part, line, given, lent, out, s);
+        let done = turn(rt, part, line, given, lent, out, s);
         s = done.state;
         if done.last {
             return s;
@@ -70,6 +78,7 @@ fn parts(
 
 // Reads a part and runs its lines. It is the last where the input has ended, the read fails or a write has failed.
 fn turn(
+    rt: &(impl Input + Print + Eprint),
     part: &mut [u8],
     line: &mut [u8],
     given: &mut [u8],
@@ -77,7 +86,7 @@ fn turn(
     out: &mut [u8],
     s: State,
 ) -> PartRun {
-    let read = streams::read_part(part);
+    let read = streams::read_part(rt, part);
     let count = read.count;
     if count == 0 {
         return PartRun {
@@ -85,7 +94,7 @@ fn turn(
             last: true,
         };
     }
-    let state = lines(&part[..count], line, given, lent, out, s);
+    let state = lines(rt, &part[..count], line, given, lent, out, s);
     PartRun {
         state,
         last: state.at == FAILED,
@@ -102,6 +111,7 @@ fn unread(mut s: State, failed: bool) -> State {
 
 // Runs every line that ends in this part of the input, and keeps what is left.
 fn lines(
+    rt: &(impl Print + Eprint),
     part: &[u8],
     line: &mut [u8],
     given: &mut [u8],
@@ -118,7 +128,7 @@ fn lines(
             return s;
         }
         at = end + 1;
-        s = one(line, given, lent, out, s);
+        s = one(rt, line, given, lent, out, s);
     }
     s
 }
@@ -154,25 +164,46 @@ fn kept(line: &mut [u8], length: usize, piece: &[u8]) -> usize {
 }
 
 // The last line needs no newline.
-fn ended(line: &[u8], given: &mut [u8], lent: &mut [u8], out: &mut [u8], s: State) -> State {
+fn ended(
+    rt: &(impl Print + Eprint),
+    line: &[u8],
+    given: &mut [u8],
+    lent: &mut [u8],
+    out: &mut [u8],
+    s: State,
+) -> State {
     if s.length == 0 {
         return s;
     }
-    one(line, given, lent, out, s)
+    one(rt, line, given, lent, out, s)
 }
 
 // Runs the line that is kept, and begins the next.
-fn one(line: &[u8], given: &mut [u8], lent: &mut [u8], out: &mut [u8], s: State) -> State {
-    let mut next = answer(line, given, lent, out, s);
+fn one(
+    rt: &(impl Print + Eprint),
+    line: &[u8],
+    given: &mut [u8],
+    lent: &mut [u8],
+    out: &mut [u8],
+    s: State,
+) -> State {
+    let mut next = answer(rt, line, given, lent, out, s);
     next.length = 0;
-    next.at = print::byte(out, next.at, b'\n');
+    next.at = print::byte(rt, out, next.at, b'\n');
     next
 }
 
-fn answer(line: &[u8], given: &mut [u8], lent: &mut [u8], out: &mut [u8], s: State) -> State {
+fn answer(
+    rt: &(impl Print + Eprint),
+    line: &[u8],
+    given: &mut [u8],
+    lent: &mut [u8],
+    out: &mut [u8],
+    s: State,
+) -> State {
     let length = s.length;
     if line.len() < length {
-        return s.malformed(out);
+        return s.malformed(rt, out);
     }
-    operation::run(&line[0..length], given, lent, out, s)
+    operation::run(rt, &line[0..length], given, lent, out, s)
 }

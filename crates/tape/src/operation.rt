@@ -26,28 +26,36 @@ impl State {
         }
     }
 
-    pub fn malformed(mut self, out: &mut [u8]) -> Self {
-        self.at = malformed(out, self.at);
+    pub fn malformed(mut self, rt: &(impl Print + Eprint), out: &mut [u8]) -> Self {
+        self.at = malformed(rt, out, self.at);
         self
     }
 }
 
 // Prints the line's answer without a newline.
-pub fn run(line: &[u8], given: &mut [u8], lent: &mut [u8], out: &mut [u8], s: State) -> State {
+pub fn run(
+    rt: &(impl Print + Eprint),
+    line: &[u8],
+    given: &mut [u8],
+    lent: &mut [u8],
+    out: &mut [u8],
+    s: State,
+) -> State {
     if line.len() == 0 {
-        return s.malformed(out);
+        return s.malformed(rt, out);
     }
     let letter = line[0];
     match letter {
-        b'P' | b'A' => packet::read(line, letter, given, lent, out, s),
-        b'F' => packet::flush(line, out, s),
-        b'G' => packet::active(line, out, s),
-        _ => without_reader(line, letter, given, lent, out, s),
+        b'P' | b'A' => packet::read(rt, line, letter, given, lent, out, s),
+        b'F' => packet::flush(rt, line, out, s),
+        b'G' => packet::active(rt, line, out, s),
+        _ => without_reader(rt, line, letter, given, lent, out, s),
     }
 }
 
 // Every other operation leaves the reader as it is.
 fn without_reader(
+    rt: &(impl Print + Eprint),
     line: &[u8],
     letter: u8,
     given: &mut [u8],
@@ -55,12 +63,13 @@ fn without_reader(
     out: &mut [u8],
     mut s: State,
 ) -> State {
-    s.at = printed(line, letter, given, lent, out, s.at);
+    s.at = printed(rt, line, letter, given, lent, out, s.at);
     s
 }
 
 // A letter that no operation has is malformed.
 fn printed(
+    rt: &(impl Print + Eprint),
     line: &[u8],
     letter: u8,
     given: &mut [u8],
@@ -69,16 +78,16 @@ fn printed(
     at: usize,
 ) -> usize {
     match letter {
-        b'S' | b'B' | b'Y' => read::bytes(line, letter, given, out, at),
-        b'E' | b'C' => read::entry(line, letter, given, out, at),
-        b'T' => calls::calls(line, out, at),
-        b'W' => packet_write::write(line, given, lent, out, at),
-        b'L' => write::section(line, lent, out, at),
-        b'N' => write::entry(line, lent, out, at),
-        _ => malformed(out, at),
+        b'S' | b'B' | b'Y' => read::bytes(rt, line, letter, given, out, at),
+        b'E' | b'C' => read::entry(rt, line, letter, given, out, at),
+        b'T' => calls::calls(rt, line, out, at),
+        b'W' => packet_write::write(rt, line, given, lent, out, at),
+        b'L' => write::section(rt, line, lent, out, at),
+        b'N' => write::entry(rt, line, lent, out, at),
+        _ => malformed(rt, out, at),
     }
 }
 
-pub fn malformed(out: &mut [u8], at: usize) -> usize {
-    print::byte(out, at, b'?')
+pub fn malformed(rt: &(impl Print + Eprint), out: &mut [u8], at: usize) -> usize {
+    print::byte(rt, out, at, b'?')
 }

@@ -20,17 +20,25 @@ struct FrontWords {
     next: usize,
 }
 
-pub fn write(line: &[u8], given: &mut [u8], lent: &mut [u8], out: &mut [u8], at: usize) -> usize {
+pub fn write(
+    rt: &(impl Print + Eprint),
+    line: &[u8],
+    given: &mut [u8],
+    lent: &mut [u8],
+    out: &mut [u8],
+    at: usize,
+) -> usize {
     let front = front(line, given);
     if given.len() < front.captions {
-        return malformed(out, at);
+        return malformed(rt, out, at);
     }
     if lent.len() < front.room {
-        return malformed(out, at);
+        return malformed(rt, out, at);
     }
     let captions = front.captions;
     let room = front.room;
     with_services(
+        rt,
         line,
         front,
         &given[0..captions],
@@ -59,6 +67,7 @@ fn front(line: &[u8], given: &mut [u8]) -> FrontWords {
 }
 
 fn with_services(
+    rt: &(impl Print + Eprint),
     line: &[u8],
     front: FrontWords,
     captions: &[u8],
@@ -69,15 +78,16 @@ fn with_services(
     let word = held::services(line, words::mark(line, front.next, b' '));
     let service_info = word.service_info;
     if !words::ends(line, word.next) {
-        return malformed(out, at);
+        return malformed(rt, out, at);
     }
     let framerate = front.framerate;
     let time_code = front.time_code;
     let writer = holding(time_code, service_info, front.sequence);
-    write_into(writer, framerate, captions, lent, out, at)
+    write_into(rt, writer, framerate, captions, lent, out, at)
 }
 
 fn write_into(
+    rt: &(impl Print + Eprint),
     writer: CDPWriter,
     framerate: Framerate,
     captions: &[u8],
@@ -87,8 +97,8 @@ fn write_into(
 ) -> usize {
     fill(lent);
     let answer = writer.write(framerate, captions, lent);
-    let letter = word(out, at, b"W ");
-    written(answer, lent, out, letter)
+    let letter = word(rt, out, at, b"W ");
+    written(rt, answer, lent, out, letter)
 }
 
 // What a line does not hold, and sequence 0, are not set: they are as the flush left them.

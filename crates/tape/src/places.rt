@@ -8,30 +8,43 @@ use report::fill;
 use service_list::{ServiceEntry, ServiceInfo};
 
 // The reader is a new one, and the tape's own stays as it is.
-pub fn packet(packet: &[u8], lent: &mut [u8], out: &mut [u8], mut s: State) -> State {
+pub fn packet(
+    rt: &(impl Print + Eprint),
+    packet: &[u8],
+    lent: &mut [u8],
+    out: &mut [u8],
+    mut s: State,
+) -> State {
     fill(lent);
     let fresh = CDPParser::new();
     let read = fresh.parse(packet, lent);
     let answer = read.answer;
-    s.at = placed(out, s.at, b"A ", answer, read.place);
+    s.at = placed(rt, out, s.at, b"A ", answer, read.place);
     s
 }
 
-pub fn section(bytes: &[u8], out: &mut [u8], at: usize) -> usize {
+pub fn section(rt: &(impl Print + Eprint), bytes: &[u8], out: &mut [u8], at: usize) -> usize {
     let read = ServiceInfo::parse(bytes);
     let answer = read.answer;
-    placed(out, at, b"B ", answer, read.place)
+    placed(rt, out, at, b"B ", answer, read.place)
 }
 
-pub fn entry(bytes: [u8; 6], out: &mut [u8], at: usize) -> usize {
+pub fn entry(rt: &(impl Print + Eprint), bytes: [u8; 6], out: &mut [u8], at: usize) -> usize {
     let read = ServiceEntry::parse(bytes);
     let answer = read.answer;
-    placed(out, at, b"C ", answer, read.place)
+    placed(rt, out, at, b"C ", answer, read.place)
 }
 
-fn placed(out: &mut [u8], at: usize, letter: &[u8], answer: Answer, place: usize) -> usize {
-    let named = word(out, at, letter);
-    let answered = show::answer(out, named, answer);
-    let marked = word(out, answered, b" at ");
-    decimal(out, marked, place as u64)
+fn placed(
+    rt: &(impl Print + Eprint),
+    out: &mut [u8],
+    at: usize,
+    letter: &[u8],
+    answer: Answer,
+    place: usize,
+) -> usize {
+    let named = word(rt, out, at, letter);
+    let answered = show::answer(rt, out, named, answer);
+    let marked = word(rt, out, answered, b" at ");
+    decimal(rt, out, marked, place as u64)
 }

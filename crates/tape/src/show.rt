@@ -8,141 +8,162 @@ use service_list::{
 use values::{Framerate, MaybeFramerate};
 use values_time::{MaybeTimeCode, TimeCode};
 
-pub fn answer(out: &mut [u8], at: usize, shown: Answer) -> usize {
-    let number = decimal(out, at, shown.number as u64);
-    let parted = byte(out, number, b' ');
-    let first = decimal(out, parted, shown.first as u64);
-    let parted2 = byte(out, first, b' ');
-    decimal(out, parted2, shown.second as u64)
+pub fn answer(rt: &(impl Print + Eprint), out: &mut [u8], at: usize, shown: Answer) -> usize {
+    let number = decimal(rt, out, at, shown.number as u64);
+    let parted = byte(rt, out, number, b' ');
+    let first = decimal(rt, out, parted, shown.first as u64);
+    let parted2 = byte(rt, out, first, b' ');
+    decimal(rt, out, parted2, shown.second as u64)
 }
 
-pub fn entry(out: &mut [u8], at: usize, shown: ServiceEntry) -> usize {
+pub fn entry(rt: &(impl Print + Eprint), out: &mut [u8], at: usize, shown: ServiceEntry) -> usize {
     let named = shown.service;
     let language = shown.language;
-    let behind = service(out, at, named);
-    hex(out, behind, &language)
+    let behind = service(rt, out, at, named);
+    hex(rt, out, behind, &language)
 }
 
-fn service(out: &mut [u8], at: usize, named: FieldOrService) -> usize {
+fn service(rt: &(impl Print + Eprint), out: &mut [u8], at: usize, named: FieldOrService) -> usize {
     match named {
-        FieldOrService::Field(first) => field(out, at, first),
-        FieldOrService::Service(shown) => digital(out, at, shown),
+        FieldOrService::Field(first) => field(rt, out, at, first),
+        FieldOrService::Service(shown) => digital(rt, out, at, shown),
     }
 }
 
-fn field(out: &mut [u8], at: usize, first: bool) -> usize {
+fn field(rt: &(impl Print + Eprint), out: &mut [u8], at: usize, first: bool) -> usize {
     if first {
-        word(out, at, b"f:1:")
+        word(rt, out, at, b"f:1:")
     } else {
-        word(out, at, b"f:2:")
+        word(rt, out, at, b"f:2:")
     }
 }
 
-fn digital(out: &mut [u8], at: usize, shown: DigitalServiceEntry) -> usize {
-    let kind = word(out, at, b"d:");
-    let number = decimal(out, kind, shown.service as u64);
-    let easy = flag(out, number, shown.easy_reader);
-    let wide = flag(out, easy, shown.wide_aspect_ratio);
-    byte(out, wide, b':')
+fn digital(
+    rt: &(impl Print + Eprint),
+    out: &mut [u8],
+    at: usize,
+    shown: DigitalServiceEntry,
+) -> usize {
+    let kind = word(rt, out, at, b"d:");
+    let number = decimal(rt, out, kind, shown.service as u64);
+    let easy = flag(rt, out, number, shown.easy_reader);
+    let wide = flag(rt, out, easy, shown.wide_aspect_ratio);
+    byte(rt, out, wide, b':')
 }
 
-fn flag(out: &mut [u8], at: usize, on: bool) -> usize {
-    let mark = byte(out, at, b':');
-    bit(out, mark, on)
+fn flag(rt: &(impl Print + Eprint), out: &mut [u8], at: usize, on: bool) -> usize {
+    let mark = byte(rt, out, at, b':');
+    bit(rt, out, mark, on)
 }
 
-pub fn list(out: &mut [u8], at: usize, shown: ServiceInfo) -> usize {
+pub fn list(rt: &(impl Print + Eprint), out: &mut [u8], at: usize, shown: ServiceInfo) -> usize {
     let services = shown.services;
-    let start = bit(out, at, shown.start);
-    let mark = byte(out, start, b',');
-    let change = bit(out, mark, shown.change);
-    let mark2 = byte(out, change, b',');
-    let complete = bit(out, mark2, shown.complete);
-    entries(out, complete, services, shown.count)
+    let start = bit(rt, out, at, shown.start);
+    let mark = byte(rt, out, start, b',');
+    let change = bit(rt, out, mark, shown.change);
+    let mark2 = byte(rt, out, change, b',');
+    let complete = bit(rt, out, mark2, shown.complete);
+    entries(rt, out, complete, services, shown.count)
 }
 
-fn entries(out: &mut [u8], from: usize, services: [ServiceEntry; 15], count: usize) -> usize {
+fn entries(
+    rt: &(impl Print + Eprint),
+    out: &mut [u8],
+    from: usize,
+    services: [ServiceEntry; 15],
+    count: usize,
+) -> usize {
     let mut at = from;
     for k in 0..15 {
         if count <= k {
             return at;
         }
-        let mark = byte(out, at, b';');
+        let mark = byte(rt, out, at, b';');
         let shown = services[k];
-        at = entry(out, mark, shown);
+        at = entry(rt, out, mark, shown);
     }
     at
 }
 
 // Behind the letter of a flush, or the answer of a packet.
-pub fn parser(out: &mut [u8], at: usize, shown: CDPParser) -> usize {
+pub fn parser(rt: &(impl Print + Eprint), out: &mut [u8], at: usize, shown: CDPParser) -> usize {
     let framerate = shown.framerate;
     let time_code = shown.time_code;
     let service_info = shown.service_info;
-    let rated = maybe_rate(out, at, framerate);
-    let counted = sequence(out, rated, shown.sequence);
-    let timed = maybe_time(out, counted, time_code);
-    maybe_list(out, timed, service_info)
+    let rated = maybe_rate(rt, out, at, framerate);
+    let counted = sequence(rt, out, rated, shown.sequence);
+    let timed = maybe_time(rt, out, counted, time_code);
+    maybe_list(rt, out, timed, service_info)
 }
 
-fn maybe_rate(out: &mut [u8], at: usize, held: MaybeFramerate) -> usize {
+fn maybe_rate(
+    rt: &(impl Print + Eprint),
+    out: &mut [u8],
+    at: usize,
+    held: MaybeFramerate,
+) -> usize {
     let framerate = held.framerate;
-    let named = word(out, at, b" rate ");
+    let named = word(rt, out, at, b" rate ");
     if held.present {
-        rate(out, named, framerate)
+        rate(rt, out, named, framerate)
     } else {
-        none(out, named)
+        none(rt, out, named)
     }
 }
 
-fn sequence(out: &mut [u8], at: usize, shown: u16) -> usize {
-    let named = word(out, at, b" seq ");
-    decimal(out, named, shown as u64)
+fn sequence(rt: &(impl Print + Eprint), out: &mut [u8], at: usize, shown: u16) -> usize {
+    let named = word(rt, out, at, b" seq ");
+    decimal(rt, out, named, shown as u64)
 }
 
-fn maybe_time(out: &mut [u8], at: usize, held: MaybeTimeCode) -> usize {
+fn maybe_time(rt: &(impl Print + Eprint), out: &mut [u8], at: usize, held: MaybeTimeCode) -> usize {
     let time_code = held.time_code;
-    let named = word(out, at, b" time ");
+    let named = word(rt, out, at, b" time ");
     if held.present {
-        time(out, named, time_code)
+        time(rt, out, named, time_code)
     } else {
-        none(out, named)
+        none(rt, out, named)
     }
 }
 
-fn maybe_list(out: &mut [u8], at: usize, held: MaybeServiceInfo) -> usize {
+fn maybe_list(
+    rt: &(impl Print + Eprint),
+    out: &mut [u8],
+    at: usize,
+    held: MaybeServiceInfo,
+) -> usize {
     let service_info = held.service_info;
-    let named = word(out, at, b" svc ");
+    let named = word(rt, out, at, b" svc ");
     if held.present {
-        list(out, named, service_info)
+        list(rt, out, named, service_info)
     } else {
-        none(out, named)
+        none(rt, out, named)
     }
 }
 
-fn none(out: &mut [u8], at: usize) -> usize {
-    word(out, at, b"none")
+fn none(rt: &(impl Print + Eprint), out: &mut [u8], at: usize) -> usize {
+    word(rt, out, at, b"none")
 }
 
-fn rate(out: &mut [u8], at: usize, shown: Framerate) -> usize {
-    let id = decimal(out, at, shown.id as u64);
-    let mark = byte(out, id, b'/');
-    let numer = decimal(out, mark, shown.numer as u64);
-    let mark2 = byte(out, numer, b'/');
-    decimal(out, mark2, shown.denom as u64)
+fn rate(rt: &(impl Print + Eprint), out: &mut [u8], at: usize, shown: Framerate) -> usize {
+    let id = decimal(rt, out, at, shown.id as u64);
+    let mark = byte(rt, out, id, b'/');
+    let numer = decimal(rt, out, mark, shown.numer as u64);
+    let mark2 = byte(rt, out, numer, b'/');
+    decimal(rt, out, mark2, shown.denom as u64)
 }
 
-fn time(out: &mut [u8], at: usize, shown: TimeCode) -> usize {
-    let hours = decimal(out, at, shown.hours as u64);
-    let minutes = part(out, hours, shown.minutes);
-    let seconds = part(out, minutes, shown.seconds);
-    let frames = part(out, seconds, shown.frames);
-    let field = flag(out, frames, shown.field);
-    flag(out, field, shown.drop_frame)
+fn time(rt: &(impl Print + Eprint), out: &mut [u8], at: usize, shown: TimeCode) -> usize {
+    let hours = decimal(rt, out, at, shown.hours as u64);
+    let minutes = part(rt, out, hours, shown.minutes);
+    let seconds = part(rt, out, minutes, shown.seconds);
+    let frames = part(rt, out, seconds, shown.frames);
+    let field = flag(rt, out, frames, shown.field);
+    flag(rt, out, field, shown.drop_frame)
 }
 
 // One of the numbers behind the hours.
-fn part(out: &mut [u8], at: usize, shown: u8) -> usize {
-    let mark = byte(out, at, b':');
-    decimal(out, mark, shown as u64)
+fn part(rt: &(impl Print + Eprint), out: &mut [u8], at: usize, shown: u8) -> usize {
+    let mark = byte(rt, out, at, b':');
+    decimal(rt, out, mark, shown as u64)
 }

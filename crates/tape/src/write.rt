@@ -6,50 +6,80 @@ use basis::Answer;
 use report::fill;
 use service_list::{ServiceEntry, ServiceInfo};
 
-pub fn section(line: &[u8], lent: &mut [u8], out: &mut [u8], at: usize) -> usize {
+pub fn section(
+    rt: &(impl Print + Eprint),
+    line: &[u8],
+    lent: &mut [u8],
+    out: &mut [u8],
+    at: usize,
+) -> usize {
     let lends = lent::room(line);
     let room = lends.value as usize;
     let word = lists::list(line, words::mark(line, lends.next, b' '));
     let list = word.list;
     if !words::ends(line, word.next) {
-        return malformed(out, at);
+        return malformed(rt, out, at);
     }
     if lent.len() < room {
-        return malformed(out, at);
+        return malformed(rt, out, at);
     }
-    section_into(list, &mut lent[0..room], out, at)
+    section_into(rt, list, &mut lent[0..room], out, at)
 }
 
-fn section_into(list: ServiceInfo, lent: &mut [u8], out: &mut [u8], at: usize) -> usize {
+fn section_into(
+    rt: &(impl Print + Eprint),
+    list: ServiceInfo,
+    lent: &mut [u8],
+    out: &mut [u8],
+    at: usize,
+) -> usize {
     fill(lent);
     let answer = list.write_into(lent);
-    let letter = word(out, at, b"L ");
-    written(answer, lent, out, letter)
+    let letter = word(rt, out, at, b"L ");
+    written(rt, answer, lent, out, letter)
 }
 
-pub fn entry(line: &[u8], lent: &mut [u8], out: &mut [u8], at: usize) -> usize {
+pub fn entry(
+    rt: &(impl Print + Eprint),
+    line: &[u8],
+    lent: &mut [u8],
+    out: &mut [u8],
+    at: usize,
+) -> usize {
     let lends = lent::room(line);
     let room = lends.value as usize;
     let word = lists::entry(line, words::mark(line, lends.next, b' '));
     let entry = word.entry;
     if !words::ends(line, word.next) {
-        return malformed(out, at);
+        return malformed(rt, out, at);
     }
     if lent.len() < room {
-        return malformed(out, at);
+        return malformed(rt, out, at);
     }
-    entry_into(entry, &mut lent[0..room], out, at)
+    entry_into(rt, entry, &mut lent[0..room], out, at)
 }
 
-fn entry_into(entry: ServiceEntry, lent: &mut [u8], out: &mut [u8], at: usize) -> usize {
+fn entry_into(
+    rt: &(impl Print + Eprint),
+    entry: ServiceEntry,
+    lent: &mut [u8],
+    out: &mut [u8],
+    at: usize,
+) -> usize {
     fill(lent);
     let answer = entry.write_into(lent);
-    let letter = word(out, at, b"N ");
-    written(answer, lent, out, letter)
+    let letter = word(rt, out, at, b"N ");
+    written(rt, answer, lent, out, letter)
 }
 
 // The answer and the whole of the lent bytes.
-pub fn written(answer: Answer, lent: &[u8], out: &mut [u8], at: usize) -> usize {
-    let answered = show::answer(out, at, answer);
-    lent::show(out, answered, lent)
+pub fn written(
+    rt: &(impl Print + Eprint),
+    answer: Answer,
+    lent: &[u8],
+    out: &mut [u8],
+    at: usize,
+) -> usize {
+    let answered = show::answer(rt, out, at, answer);
+    lent::show(rt, out, answered, lent)
 }

@@ -8,35 +8,35 @@ ghost use Rattle.text_why.specs.Explained.{why_most_text, why_text};
 use text_why::WhyText;
 
 // The buffer for the input has one byte more than is taken, which shows that there are too many.
-fn main() {
+fn main(rt: HostRuntime) {
     let mut input = [0u8; WhyText::MOST_INPUT + 1];
     let mut text = [0u8; WhyText::MOST_TEXT];
-    tell(&mut input, &mut text);
+    tell(&rt, &mut input, &mut text);
 }
 
 // Of an input that cannot be read to its end nothing is printed.
-fn tell(input: &mut [u8], text: &mut [u8])
+fn tell(rt: &(impl Input + Print + Eprint), input: &mut [u8], text: &mut [u8])
     requires { length text.old ≡ why_most_text }
 {
-    let read = streams::read_all(input);
+    let read = streams::read_all(rt, input);
     if read.failed {
         return;
     }
     let count = read.count;
-    print(&input[..count], text);
+    print(rt, &input[..count], text);
 }
 
-fn print(input: &[u8], text: &mut [u8])
+fn print(rt: &(impl Print + Eprint), input: &[u8], text: &mut [u8])
     requires { length text.old ≡ why_most_text }
 {
     let answer = WhyText::write_into(input, text);
     let length = answer.first;
-    hand_on(input, &text[..length]);
+    hand_on(rt, input, &text[..length]);
 }
 
 // What is written is the text of what was read, all of it and nothing else: whoever calls this has to show it.
-fn hand_on(input: &[u8], text: &[u8])
+fn hand_on(rt: &(impl Print + Eprint), input: &[u8], text: &[u8])
     requires { text.now ≡ why_text input.now }
 {
-    streams::write(text);
+    streams::write(rt, text);
 }
