@@ -3,3 +3,4 @@ pub mod ListMade
 pub mod PacketShown
 pub mod ReaderReads
 pub mod Refusals
+mod PacketTested

@@ -2,7 +2,7 @@
 -- Assumes nothing.
 use mathlib.Core.Bool.{true, false, true≢false}
 use mathlib.Core.List.{List}
-use mathlib.Core.Path.{◌≡◌, refl}
+use mathlib.Core.Path.{◌≡◌, refl, subst, sym}
 use Prim.Native.Nat.{ℕ}
 use lib.Bits.{bit_and}
 use lib.Dec.{eqb}
@@ -97,4 +97,7 @@ module _ (p : List ℕ) where
   -- the same of flags and a place that are the packet's
   pub kept_so : (f : Flags) (i : ℕ) → verdict (packet_checks p) ≡ clear → f ≡ flags_in p → i ≡ services_at p
       → f.svc_info ≡ true → verdict (services_checks p f i) ≡ clear
-  kept_so f i v fe ie = rw (fe, ie) (list_kept v)
+  kept_so f i v fe ie =
+      subst (λ (g : Flags). g.svc_info ≡ true → verdict (services_checks p g i) ≡ clear) (sym fe)
+      (subst (λ (j : ℕ). (flags_in p).svc_info ≡ true → verdict (services_checks p (flags_in p) j) ≡ clear) (sym ie)
+      (list_kept v))
