@@ -11,7 +11,8 @@ use lib.ListN.{replicate}
 use Rattle.basis.specs.Bytes.{byte, over}
 use Rattle.values.specs.Rate.{from_id}
 use Rattle.values_time.specs.Time.{digits}
-use Rattle.service_entries.specs.Entries.{filled, section_checks}
+use Rattle.basis.specs.Answer.{done}
+use Rattle.service_entries.specs.Entries.{count_of, filled, section_checks}
 use Rattle.service_list.specs.Section.{list_of, section_read}
 use Rattle.read_header.specs.Header.{flags_in}
 use Rattle.read_closing.specs.Closing.{closing_checks}
@@ -19,7 +20,7 @@ use Rattle.read_services.specs.Services.{same_flags}
 use Rattle.read_packet.specs.Packet.{closing_at, packet_checks, services_at}
 use Rattle.reader.specs.Shown.{shown_by}
 use Rattle.reader.specs.Reader.{buffer_after, read}
-use Rattle.theorem_altered.specs.Alteration.{OtherSection, Put, captions_from, section_in}
+use Rattle.theorem_altered.specs.Alteration.{OtherSection, Put, captions_from, mended_flags, section_in}
 use Rattle.theorem_altered.specs.Examples.{Examples, packet_before, spanish, with_both, with_captions', with_spanish}
 use Rattle.theorem_altered.specs.Calls.{Call, flush, packet}
 use Rattle.theorem_altered.specs.Twins.{Lent}
@@ -79,10 +80,25 @@ both_put =
       checksum_mended = refl;
     }
 
-section_put_lem : (q : List ℕ) → section_in packet_before q ≡ spanish → flags_in q ≡ flags_in with_spanish → OtherSection packet_before q
+spanish_read : (section_read spanish).answer ≡ done 0
 unfolding section_checks section_read list_of filled
+spanish_read = refl
+
+spanish_as_many : count_of spanish ≡ count_of (section_in packet_before packet_before)
+unfolding section_checks section_read list_of filled
+spanish_as_many = refl
+
+spanish_flags : flags_in with_spanish ≡ mended_flags (flags_in packet_before) (section_read spanish).list
+unfolding section_checks section_read list_of filled
+spanish_flags = refl
+
+section_put_lem : (q : List ℕ) → section_in packet_before q ≡ spanish → flags_in q ≡ flags_in with_spanish → OtherSection packet_before q
 section_put_lem q section flags =
-    record { well_formed = rw section; as_many_entries = rw section; header_flags_mended = rw (section, flags) }
+    record {
+      well_formed = rw section spanish_read;
+      as_many_entries = rw section spanish_as_many;
+      header_flags_mended = rw (section, flags) spanish_flags;
+    }
 
 pub examples : Examples
 unfolding packet_checks closing_checks section_checks section_read list_of filled same_flags from_id digits read shown_by

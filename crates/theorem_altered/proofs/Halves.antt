@@ -4,7 +4,7 @@ use mathlib.Core.List.{List, [], ◌∷◌}
 use mathlib.Core.Path.{◌≡◌, ◌∙◌, sym, refl, ap, ap₂, subst}
 use Prim.Native.Nat.{ℕ}
 use Rattle.basis.proofs.Verdicts.{refused_not_done}
-use Rattle.basis.specs.Check.{Verdict, answer, broken, clear, verdict}
+use Rattle.basis.specs.Check.{Verdict, broken, clear, verdict}
 use Rattle.read_packet.specs.Packet.{captions_length, packet_checks}
 use Rattle.reader.specs.Shown.{shown_by}
 use Rattle.reader.specs.Reader.{captions_of, cleared}
