@@ -3,7 +3,7 @@
 -- Assumes nothing.
 use mathlib.Core.Bool.{true}
 use mathlib.Core.Path.{◌≡◌}
-use Prim.Native.Nat.{◌-◌, ◌≤◌}
+use Prim.Native.Nat.{◌≤◌}
 use lib.ListN.{length}
 use Rattle.service_entry.specs.Code.{all_writable}
 use Rattle.service_entry.specs.EntriesWriting.{places_from}
@@ -13,11 +13,5 @@ use Rattle.service_entry.proofs.entry.ServiceEntry.put_all.Given as goal
 abbrev pub invariant-loop-k : goal.invariant-loop-k
 invariant-loop-k l = (l.k ≤ l.count) × (all_writable (places_from l.services 0 l.count) ≡ ahead l.k l.count l.services)
 
-abbrev pub decreases-loop-k : goal.decreases-loop-k
-decreases-loop-k l = l.count - l.k
-
 abbrev pub invariant-loop-k-2 : goal.invariant-loop-k-2
 invariant-loop-k-2 l = (l.k ≤ l.count) × (length l.out ≡ length l.initial.out) × (l.out ≡ entries_put l.k l.at l.services l.initial.out) × (ahead l.k l.count l.services ≡ true)
-
-abbrev pub decreases-loop-k-2 : goal.decreases-loop-k-2
-decreases-loop-k-2 l = l.count - l.k
