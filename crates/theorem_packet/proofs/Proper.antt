@@ -9,12 +9,13 @@ use borrow.Author.Tests.{eqb-false, leb-false, leb-true, lt-ltb, ne_eqb}
 use lib.Dec.{eqb, leb}
 use lib.ListN.{length}
 use Rattle.basis.proofs.Holds.{Holds, So, also, both, fixed, none, unless_found, where_moved, where_there}
-use Rattle.basis.specs.Answer.{InvalidFixedBits, InvalidServiceNumber, WouldOverflow, refused}
+use Rattle.basis.specs.Answer.{InvalidFixedBits, InvalidServiceNumber, LengthMismatch, WouldOverflow, refused}
 use Rattle.basis.specs.Bytes.{byte}
 use Rattle.basis.specs.Check.{Check, CheckOf, RuleAt, WriteCheck, check, check_at, moved, room_check, size_check, when}
 use Rattle.basis.specs.declared.test.SizeTest.{SizeTest}
 use Rattle.basis.specs.declared.test.ByteTest.TheVariants.{KindField, KindNumber}
-use Rattle.basis.specs.declared.test.Test.TheVariants.{Byte}
+use Rattle.basis.specs.declared.test.SizeTest.TheVariants.{PacketSize}
+use Rattle.basis.specs.declared.test.Test.TheVariants.{Byte, Size}
 use Rattle.basis.specs.Mask.{all_clear, all_set, x3e, x3f, x80}
 use Rattle.values.specs.Layout.{footer_id, section_length, caption_room, footer_size, section_entry_size, time_code_size}
 use Rattle.values_time.specs.Time.{time_checks, time_write_checks}
@@ -143,8 +144,9 @@ module _ (beside : ℕ → ℕ → Bool) where
 module _ (beside : ℕ → ℕ → Bool) (shorter : Shorter beside) where
   size : {test : SizeTest} (p : List ℕ) (least : ℕ) {cs : List Check} → (least ≤ length p → Proper beside cs)
       → Proper beside (size_check test p least ∷ cs)
-  size p least later =
-      also (λ k. shorter least (length p) (leb-false least (length p) k)) (λ k. later (leb-true least (length p) k))
+  size {test} p least later =
+      also {good = So (proper beside)} {c = size_check test p least}
+      (λ k. shorter least (length p) (leb-false least (length p) k)) (λ k. later (leb-true least (length p) k))
 
   pub time_code_proper : (p : List ℕ) (i : ℕ) → Proper beside (time_code_checks p i)
   time_code_proper p i =
@@ -199,9 +201,12 @@ section_proper d = section differ shorter_differs d (differs (section_length (co
 
 pub header_proper : (p : List ℕ) → Proper differ (header_checks p)
 header_proper p =
+    let said : Check =
+    check_at (length p) (Size PacketSize) (eqb (byte p 2) (length p)) (LengthMismatch (byte p 2) (length p)) in
     size differ shorter_differs p 11
     (λ _. fixed refl
-    (also (λ k. differs (byte p 2) (length p) (eqb-false (byte p 2) (length p) k)) (λ _. fixed refl none)))
+    (also {good = So (proper differ)} {c = said} (λ k. differs (byte p 2) (length p) (eqb-false (byte p 2) (length p) k))
+    (λ _. fixed refl none)))
 
 pub packet_proper : (p : List ℕ) → Proper differ (packet_checks p)
 unfolding packet_checks
