@@ -1,8 +1,8 @@
 -- What the type of a writer says of the languages of its list: each has three bytes.
 -- Assumes nothing.
 use mathlib.Core.Bool.{true}
-use mathlib.Core.List.{List, [], ◌∷◌, map}
-use mathlib.Core.Path.{◌≡◌, ◌∙◌, refl, sym}
+use mathlib.Core.List.{List, [], ◌∷◌}
+use mathlib.Core.Path.{◌≡◌, refl}
 use Prim.Native.Nat.{ℕ, zero, suc, ◌+◌}
 use borrow.Author.Tests.{eq-eqb}
 use denote.Array.{each}
@@ -10,7 +10,7 @@ use denote.Laws.{Is}
 use denote.Shadow.{shadow}
 use denote.Struct.Declared.{row}
 use lib.Dec.{eqb}
-use lib.ListN.{get_or, length, length-map}
+use lib.ListN.{get_or, length}
 use mir.Val.{Val}
 use Rattle.basis.proofs.Bools.{and_left, and_right}
 use Rattle.service_entry.specs.Service.{filler}
@@ -24,13 +24,13 @@ use Rattle.writer.specs.declared.writer.CDPWriter.{CDPWriter}
 
 -- the values of an array of entries, one after the other: the type of each has its language of three bytes
 each_three : (es : List ServiceEntry) (us : List Val)
-    → shadow (each (Entry.the_field).row.Denot (Entry.the_field).row.own_val (map (Entry.the_field).into es) us)
+    → shadow (each (Entry.the_row).Denot (Entry.the_row).own_val es us)
     → all_of_three es ≡ true
 unfolding all_of_three
 each_three [] us h = refl
 each_three (e ∷ es) [] h = absurd h
 each_three (e ∷ es) (u ∷ us) h =
-    rw (eq-eqb (length e.language) 3 (sym (length-map e.language (λ v. v)) ∙ h.0.1.1.0.1.0.1))
+    rw (eq-eqb (length e.language) 3 h.0.1.1.0.1.0.1)
     (each_three es us h.1)
 
 -- so has each of its places, and the filler
