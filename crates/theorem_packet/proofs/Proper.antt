@@ -31,7 +31,7 @@ use Rattle.read_services.proofs.ServicesReads.{as_long}
 use Rattle.read_services.specs.Services.{services_part, services_checks, services_size}
 use Rattle.read_closing.specs.Closing.{closing_checks, footer_checks, footer_from, future_checks, future_length}
 use Rattle.read_packet.specs.Packet.{time_code_at, captions_at, closing_at, packet_checks, services_at}
-use Rattle.reader.specs.Reader.{read_checks}
+use Rattle.reader.specs.Reader.{caption_room_check, read_checks}
 use Rattle.write_checks.specs.Checks as Checks
 use Rattle.writer.specs.Writer.{set_checks}
 use Rattle.theorem_packet.specs.FirstDemand.{differ, refusal_in_table, smaller}
@@ -224,4 +224,6 @@ packet_proper p =
     (closing_proper differ shorter_differs p (sequence_in p) (closing_at p)))))
 
 pub read_proper : (p : List ℕ) (lent : ℕ) → Proper differ (read_checks p lent)
-read_proper p lent = also (short caption_room lent) (λ _. packet_proper p)
+read_proper p lent =
+    also {good = So (proper differ)} {c = caption_room_check lent} {cs = packet_checks p} (short caption_room lent)
+    (λ _. packet_proper p)
