@@ -31,6 +31,7 @@ impl TimeCodeSection {
     }
 
     // Reads the section at a place, where the header says that it is there.
+    #[tactic(auto, using(crate::proofs::TimeCodeReads::other_id))]
     pub fn parse(packet: &[u8], present: bool, at: u8) -> Self
         ensures { result ≡ time_code_read packet.now present at }
     {

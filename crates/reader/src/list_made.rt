@@ -17,7 +17,7 @@ use values::{Flags, Packet};
 // The list of an accepted packet with these flags, whose services begin at this place; none where there is no flag for
 // them. One place makes both. Nothing can call it of a packet that breaks a rule.
 pub(crate) fn list(packet: &[u8], flags: Flags, at: u8) -> MaybeServiceInfo
-    requires packet_value { verdict (packet_checks packet.now) ≡ clear }
+    requires packet_clear { verdict (packet_checks packet.now) ≡ clear }
     requires flags_value { flags ≡ flags_in packet.now }
     requires at_value { at ≡ services_at packet.now }
     ensures { result ≡ services_of packet.now flags.svc_info at }

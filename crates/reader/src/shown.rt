@@ -11,7 +11,7 @@ use read_packet::Checked;
 
 // What the packet's tests have kept of it, and its list.
 pub(crate) fn shown(read: Checked, packet: &[u8]) -> CDPParser
-    requires packet_value { verdict (packet_checks packet.now) ≡ clear }
+    requires packet_clear { verdict (packet_checks packet.now) ≡ clear }
     requires read_value { read ≡ checked_read packet.now }
     ensures { result ≡ shown_by packet.now }
 {

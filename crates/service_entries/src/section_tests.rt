@@ -36,6 +36,7 @@ pub fn test_section(data: &[u8]) -> Outcome
 }
 
 // Tests the entries behind the section's two bytes, first to last.
+#[tactic(auto, using(crate::proofs::SectionPlaces::at_near))]
 fn test_entries(data: &[u8], header: u8) -> Outcome
     requires { Code.Framed «data».now header }
     ensures { result ≡ Code.section_outcome «data».now }

@@ -43,6 +43,7 @@ impl ServiceEntry {
 
     // Whether so many of these entries can be written; then, if there is room for all, they are put from a place on, each
     // behind its header byte. Both loops stand here, since each function that indexes the array stores it once more.
+    #[tactic(auto, using(crate::proofs::EntriesWrites::ahead_goes_on))]
     pub fn put_all(services: [Self; 15], count: usize, at: usize, out: &mut [u8]) -> bool
         ensures value { result ≡ Code.places_writable services count }
         ensures out_after { out.new ≡ Code.entries_left services count at out.old }
@@ -83,7 +84,7 @@ impl ServiceEntry {
 
     // The entry behind its header byte, as a section has it.
     fn put_in_section(self, at: usize, out: &mut [u8])
-        requires service_value { Writing.writable self.service ≡ true }
+        requires service_writable { Writing.writable self.service ≡ true }
         requires at_in_bounds { at + Writing.seven_length ≤ length out.old }
         ensures { out.new ≡ Bytes.over at (Writing.seven_bytes self) out.old }
     {
@@ -94,7 +95,7 @@ impl ServiceEntry {
 
     // The entry's six bytes, each straight to its place.
     fn put_at(self, at: usize, out: &mut [u8])
-        requires service_value { Writing.writable self.service ≡ true }
+        requires service_writable { Writing.writable self.service ≡ true }
         requires at_in_bounds { at + Writing.entry_length ≤ length out.old }
         ensures { out.new ≡ Bytes.over at (Writing.entry_bytes self) out.old }
     {

@@ -26,7 +26,7 @@ pub fn mend(packet: &mut [u8], behind: u8)
 // since the checksum byte then counts twice and cannot mend an odd sum.
 fn mender(behind: u8) -> usize
     ensures value { result ≡ Mend.mender behind }
-    ensures lower_bound { (1 ≤ result) × (result ≤ behind + 1) }
+    ensures bounds { (1 ≤ result) × (result ≤ behind + 1) }
 {
     if behind == 0 { 1 } else { behind as usize }
 }

@@ -113,8 +113,8 @@ pub fn small(line: &[u8], at: usize) -> ByteWord
 }
 
 fn digits(line: &[u8], from: usize) -> DigitsWord
-    ensures value_value { result.value ≡ Words.capped (Words.decimal 0 (Words.digits_of (drop from line.now))) }
-    ensures next_value { result.next ≡ from + length (Words.digits_of (drop from line.now)) }
+    ensures value { result.value ≡ Words.capped (Words.decimal 0 (Words.digits_of (drop from line.now))) }
+    ensures next { result.next ≡ from + length (Words.digits_of (drop from line.now)) }
 {
     let mut value = 0;
     let mut at = from;

@@ -8,9 +8,9 @@ use Rattle.reader.proofs.shown.shown.Goals as goal
 
 pub list-requires : goal.list-requires
 list-requires c =
-    let e = c.requires.read_value ∙ checked_clear _ c.requires.packet_value in
+    let e = c.requires.read_value ∙ checked_clear _ c.requires.packet_clear in
     record {
-      packet_value = c.requires.packet_value;
+      packet_clear = c.requires.packet_clear;
       flags_value = ap (λ (r : Checked). r.flags) e;
       at_value = ap (λ (r : Checked). r.services_at) e;
     }
@@ -18,4 +18,4 @@ list-requires c =
 pub returns : goal.returns
 unfolding shown_by
 returns c =
-    rw (c.list.ensures, c.requires.read_value ∙ checked_clear _ c.requires.packet_value)
+    rw (c.list.ensures, c.requires.read_value ∙ checked_clear _ c.requires.packet_clear)

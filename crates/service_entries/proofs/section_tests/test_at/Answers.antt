@@ -31,7 +31,7 @@ returns-then-not-is_done c =
     let parsed = rw c.six_behind.ensures at c.parse-read.ensures in
     c.at-then-not-is_done.ensures
     ∙ ap (λ (r : ServiceEntryRead). outcome_at r.answer (1 + r.place)) parsed
-    ∙ entry_refused _ _ c.if-header-ne1.false c.if-header-eq2.false
+    ∙ entry_refused _ _ c.if-header-ne1.false (omega arith)
     (rw parsed at (sym c.is_done.ensures ∙ c.if-not-is_done.true))
 
 pub returns-then-named_by-number_of : goal.returns-then-named_by-number_of
@@ -39,7 +39,7 @@ returns-then-named_by-number_of c =
     let parsed = rw c.six_behind.ensures at c.parse-read.ensures in
     let right = rw parsed at (sym c.is_done.ensures ∙ c.if-not-is_done.false) in
     c.at-then-named_by-number_of.ensures
-    ∙ other_number _ _ c.if-header-ne1.false c.if-header-eq2.false right
+    ∙ other_number _ _ c.if-header-ne1.false (omega arith) right
     (rw (c.named_by.ensures, c.number_of.ensures, parsed) at c.if-named_by-number_of.true)
 
 pub returns : goal.returns
@@ -47,5 +47,5 @@ returns c =
     let parsed = rw c.six_behind.ensures at c.parse-read.ensures in
     let right = rw parsed at (sym c.is_done.ensures ∙ c.if-not-is_done.false) in
     c.done.ensures
-    ∙ same_number _ _ c.if-header-ne1.false c.if-header-eq2.false right
+    ∙ same_number _ _ c.if-header-ne1.false (omega arith) right
     (rw (c.named_by.ensures, c.number_of.ensures, parsed) at c.if-named_by-number_of.false)

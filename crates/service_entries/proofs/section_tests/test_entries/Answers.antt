@@ -1,16 +1,9 @@
 -- `service_entries::section_tests::test_entries`: after k turns what is left to test are the entries from k on.
 -- Assumes nothing.
 use mathlib.Core.Path.{◌∙◌, sym}
-use Prim.Native.Nat.{◌≤◌}
 use native.Mathlib.Omega.{arith}
 use Rattle.service_entries.proofs.SectionEntries.{left_goes_on, section_refused, section_whole}
-use Rattle.service_entries.proofs.SectionPlaces.{at_near}
 use Rattle.service_entries.proofs.section_tests.test_entries.Goals as goal
-
-pub overflow_add-at-then-not-is_done : goal.overflow_add-at-then-not-is_done
-overflow_add-at-then-not-is_done c =
-    let near : c.test_at-tested.result.place ≤ 7 = rw c.test_at-tested.ensures (at_near _ _) in
-    omega (arith, near)
 
 pub returns-then-not-is_done : goal.returns-then-not-is_done
 returns-then-not-is_done c =

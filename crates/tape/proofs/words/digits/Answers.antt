@@ -7,7 +7,7 @@ use Rattle.tape.proofs.words.digits.Goals as goal
 pub returns-then-digit-gt9 : goal.returns-then-digit-gt9
 returns-then-digit-gt9 c =
     let stopped = digits_stopped c.loop-at.invariant (omega arith) (omega (arith, c.digit_of-digit.ensures)) in
-    record { value_value = stopped.0; next_value = stopped.1 }
+    record { value = stopped.0; next = stopped.1 }
 
 pub loop-at-preserved : goal.loop-at-preserved
 loop-at-preserved c =
@@ -16,4 +16,4 @@ loop-at-preserved c =
 
 pub returns : goal.returns
 returns c =
-    let ended = digits_ended c.loop-at.invariant (omega arith) in record { value_value = ended.0; next_value = ended.1 }
+    let ended = digits_ended c.loop-at.invariant (omega arith) in record { value = ended.0; next = ended.1 }

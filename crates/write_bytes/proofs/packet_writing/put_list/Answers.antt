@@ -4,7 +4,7 @@ use mathlib.Core.Path.{◌≡◌, ◌∙◌, sym, ap}
 use native.Mathlib.Omega.{arith}
 use Prim.Native.Nat.{◌≤◌}
 use lib.Dec.{eqb}
-use mathlib.Core.Bool.{true}
+use mathlib.Core.Bool.{false, true}
 use Rattle.service_list.specs.ServiceList.{byte_len}
 use Rattle.service_list.specs.declared.list.ServiceInfo.{ServiceInfo}
 use Rattle.basis.specs.Answer.{done}
@@ -32,10 +32,8 @@ pub returns-then-not-is_done-2 : goal.returns-then-not-is_done-2
 returns-then-not-is_done-2 c =
     let a = c.args in
     let e = c.writable-tested.ensures in
-    let left =
-    list_refused a.list a.others a.out.now
-    (rw e at (sym c.is_done-then-room-needed.ensures ∙ c.if-not-is_done-2.true))
-    in
+    let wrong : eqb c.writable-tested.result.number 0 ≡ false = cc in
+    let left = list_refused a.list a.others a.out.now (rw e at wrong) in
     record { value = e ∙ left.0; out_after = left.1 }
 
 pub returns-then-room-needed : goal.returns-then-room-needed

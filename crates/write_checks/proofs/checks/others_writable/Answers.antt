@@ -15,19 +15,19 @@ pub returns-then-run-gt-CAPTION_RUN : goal.returns-then-run-gt-CAPTION_RUN
 returns-then-run-gt-CAPTION_RUN c =
     let rated : known c.args.framerate ≡ true = sym c.is_known.ensures ∙ c.if-not-is_known.false in
     c.alone-then-run-gt-CAPTION_RUN.ensures
-    ∙ run_long _ _ c.args.run rated (omega (arith, c.if-run-gt-CAPTION_RUN.true))
+    ∙ run_long _ _ c.args.run rated (omega arith)
 
 pub returns-then-run-ne0 : goal.returns-then-run-ne0
 returns-then-run-ne0 c =
     let rated : known c.args.framerate ≡ true = sym c.is_known.ensures ∙ c.if-not-is_known.false in
-    c.alone-then-run-ne0.ensures ∙ run_cut _ _ _ rated c.if-run-gt-CAPTION_RUN.false c.if-run-ne0.true
+    c.alone-then-run-ne0.ensures ∙ run_cut _ _ _ rated (omega arith) c.if-run-ne0.true
 
 pub returns-then-not-is_done : goal.returns-then-not-is_done
 returns-then-not-is_done c =
     let rated : known c.args.framerate ≡ true = sym c.is_known.ensures ∙ c.if-not-is_known.false in
     let e = c.time_code_tested-timed.ensures in
     c.alone-then-not-is_done.ensures
-    ∙ rw e (time_refused _ _ _ rated c.if-run-gt-CAPTION_RUN.false c.if-run-ne0.false
+    ∙ rw e (time_refused _ _ _ rated (omega arith) c.if-run-ne0.false
     (rw e at (sym c.is_done.ensures ∙ c.if-not-is_done.true)))
 
 -- the run and the time code have few bytes each
@@ -43,24 +43,14 @@ overflow_add-result-3 c =
     let timed : TimeMade c.time_code_tested-timed.result c.args.time_code =
     time_made _ _ c.time_code_tested-timed.ensures (sym c.is_done.ensures ∙ c.if-not-is_done.false)
     in
-    omega (
-      arith,
-      timed.size,
-      time_code_most c.args.time_code,
-      c.if-run-gt-CAPTION_RUN.false,
-    )
+    omega (arith, timed.size, time_code_most c.args.time_code)
 
 pub overflow_add-result-4 : goal.overflow_add-result-4
 overflow_add-result-4 c =
     let timed : TimeMade c.time_code_tested-timed.result c.args.time_code =
     time_made _ _ c.time_code_tested-timed.ensures (sym c.is_done.ensures ∙ c.if-not-is_done.false)
     in
-    omega (
-      arith,
-      timed.size,
-      time_code_most c.args.time_code,
-      c.if-run-gt-CAPTION_RUN.false,
-    )
+    omega (arith, timed.size, time_code_most c.args.time_code)
 
 pub returns : goal.returns
 returns c =
@@ -68,5 +58,5 @@ returns c =
     let timed : TimeMade c.time_code_tested-timed.result c.args.time_code =
     time_made _ _ c.time_code_tested-timed.ensures (sym c.is_done.ensures ∙ c.if-not-is_done.false)
     in
-    all_right _ _ _ rated c.if-run-gt-CAPTION_RUN.false c.if-run-ne0.false
+    all_right _ _ _ rated (omega arith) c.if-run-ne0.false
     c.time_code_tested-timed.result timed

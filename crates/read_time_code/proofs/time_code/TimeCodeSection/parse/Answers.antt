@@ -4,7 +4,7 @@ use mathlib.Core.Path.{◌∙◌, sym}
 use Prim.Native.Nat.{◌≤◌}
 use native.Mathlib.Omega.{arith}
 use Rattle.values_time.proofs.TimeReads.{time_near}
-use Rattle.read_time_code.proofs.TimeCodeReads.{not_there, too_short, other_id, bytes_wrong, time_code_whole}
+use Rattle.read_time_code.proofs.TimeCodeReads.{not_there, too_short, bytes_wrong, time_code_whole}
 use Rattle.read_time_code.proofs.time_code.TimeCodeSection.parse.Goals as goal
 
 pub returns-then-not-present : goal.returns-then-not-present
@@ -17,11 +17,6 @@ returns-then-size-i c =
     c.without-then-size-i.ensures
     ∙ rw c.length_mismatch.ensures
     (too_short _ _ _ c.if-not-present.false (omega arith))
-
-pub returns-then-packet-i-ne-TIME_CODE_ID : goal.returns-then-packet-i-ne-TIME_CODE_ID
-returns-then-packet-i-ne-TIME_CODE_ID c =
-    c.without-then-packet-i-ne-TIME_CODE_ID.ensures
-    ∙ other_id _ _ _ c.if-not-present.false (omega arith) (λ h. omega arith)
 
 pub overflow_add-i-then-not-is_done-2 : goal.overflow_add-i-then-not-is_done-2
 overflow_add-i-then-not-is_done-2 c =

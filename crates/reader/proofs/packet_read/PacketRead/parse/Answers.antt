@@ -16,7 +16,7 @@ returns-then-not-is_done c =
 pub shown-requires : goal.shown-requires
 shown-requires c =
     record {
-      packet_value = tests_clear _ c.parse-read.ensures c.is_done.ensures c.if-not-is_done.false;
+      packet_clear = tests_clear _ c.parse-read.ensures c.is_done.ensures c.if-not-is_done.false;
       read_value = c.parse-read.ensures;
     }
 

@@ -7,7 +7,7 @@ use native.Mathlib.Omega.{arith}
 use borrow.Author.Tests.{ltb-false, ltb-true}
 use Rattle.service_entry.specs.Code.{places_writable}
 use Rattle.service_entry.specs.Service.{filler}
-use Rattle.service_entry.proofs.EntriesWrites.{ahead_first, ahead_stops, ahead_goes_on, ahead_ends, ahead_here, ahead_next, all_left, are_there, none_left, put_more, put_none, put_whole, short_left, too_many}
+use Rattle.service_entry.proofs.EntriesWrites.{ahead_first, ahead_stops, ahead_ends, ahead_here, ahead_next, all_left, are_there, none_left, put_more, put_none, put_whole, short_left, too_many}
 use Rattle.service_entry.proofs.entry.ServiceEntry.put_all.Goals as goal
 use Rattle.service_entry.proofs.entry.ServiceEntry.put_all.Goals.{then-room-needed-via-then-room-needed, then-room-needed-via-else-room-needed+then-room-needed-2}
 
@@ -29,13 +29,6 @@ returns-then-not-is_writable c =
     ∙ ahead_stops _ _ _ _ (omega arith) (omega arith) (sym c.is_writable.ensures ∙ c.if-not-is_writable.true)
     in
     record { value = sym some; out_after = none_left _ _ _ _ some }
-
-pub loop-k-preserved : goal.loop-k-preserved
-loop-k-preserved c = (
-  omega arith,
-  c.loop-k.invariant.1
-      ∙ ahead_goes_on _ _ _ _ (omega arith) (omega arith) (sym c.is_writable.ensures ∙ c.if-not-is_writable.false),
-)
 
 -- where the first loop ends, every entry can be written
 pub returns-then-room-needed : goal.returns-then-room-needed
@@ -61,7 +54,7 @@ pub put_in_section-requires : goal.put_in_section-requires
 put_in_section-requires c =
     let inv = c.loop-k-2.invariant in
     record {
-      service_value = ahead_here _ _ _ _ (omega arith) (omega arith) inv.3;
+      service_writable = ahead_here _ _ _ _ (omega arith) (omega arith) inv.3;
       at_in_bounds = omega (arith, inv.1, ltb-false);
     }
 
