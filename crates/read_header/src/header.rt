@@ -28,6 +28,7 @@ impl Header {
         }
     }
 
+    #[tactic(auto, using(crate::proofs::HeaderReads::too_short))]
     pub fn parse(packet: &[u8]) -> Self
         ensures { result ≡ header_read packet.now }
     {

@@ -68,6 +68,7 @@ impl CDPParser {
     }
 
     // Reads a packet. An accepted one replaces all that is shown, and its captions are put into the lent buffer.
+    #[tactic(auto, using(crate::proofs::ReaderReads::no_room, crate::proofs::ReaderReads::no_room_buffer))]
     pub fn parse(self, packet: &[u8], captions: &mut [u8]) -> CDPParserRead
         ensures value { result ≡ Reader.read self packet.now (length captions.old) }
         ensures captions_after { captions.new ≡ Reader.buffer_after packet.now captions.old }

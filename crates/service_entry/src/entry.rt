@@ -66,6 +66,7 @@ impl ServiceEntry {
     }
 
     // Reads the six bytes. Number 0 is answered before bytes 4 and 5 are looked at.
+    #[tactic(auto, using(crate::proofs::EntryReads::no_number))]
     pub fn parse(bytes: [u8; 6]) -> ServiceEntryRead
         ensures { result ≡ Entry.entry_read bytes }
     {

@@ -133,6 +133,7 @@ fn held_list(service_info: MaybeServiceInfo) -> MaybeServiceInfo
 }
 
 // Whether a list that is there counts up to 15.
+#[tactic(auto, using(crate::proofs::Setters::count_over))]
 fn count_checked(service_info: MaybeServiceInfo) -> Answer
     ensures { result ≡ Code.count_answer service_info }
 {

@@ -18,7 +18,7 @@ pub returns-then-header-eq2 : goal.returns-then-header-eq2
 returns-then-header-eq2 c =
     c.at-then-header-eq2.ensures ∙ header_no_20 _ _ c.if-header-ne1.false (omega arith)
 
--- what is read, that its place is near, and that it is right where it is accepted
+-- the place beside what is read is near
 pub overflow_add-read : goal.overflow_add-read
 overflow_add-read c =
     let near : c.parse-read.result.place ≤ 6 =

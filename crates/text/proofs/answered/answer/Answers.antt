@@ -1,5 +1,7 @@
 -- `text::answer`: the number, beside 1 its two values, and the end of the line.
 -- Assumes nothing.
+use mathlib.Core.Path.{◌≡◌}
+use native.Mathlib.Omega.{arith}
 use Rattle.text.proofs.Rooms.{behind, nothing}
 use borrow.Author.Tests.{eq-eqb, ne_eqb}
 use Rattle.text.specs.Answers.{answer_line}
@@ -14,4 +16,5 @@ returns-then-shown-eq1 c =
 pub returns : goal.returns
 unfolding answer_line
 returns c =
-    simp (ne_eqb _ _ c.if-shown-eq1.false) (behind (behind c.number-named.ensures (nothing _ _)) c.line-2.ensures)
+    let other : c.args.shown.number ≡ 1 → ⊥ = omega arith in
+    simp (ne_eqb _ _ other) (behind (behind c.number-named.ensures (nothing _ _)) c.line-2.ensures)

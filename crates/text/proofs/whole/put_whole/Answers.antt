@@ -1,6 +1,7 @@
 -- `text::put_whole`: the room, then the text.
 -- Assumes nothing.
 use mathlib.Core.List.{[]}
+use Prim.Native.Nat.{◌≤◌}
 use mathlib.Core.Path.{◌∙◌, refl}
 use native.Mathlib.Omega.{arith}
 use lib.ListN.{length}
@@ -18,7 +19,7 @@ returns-then-room-needed c =
 pub returns : goal.returns
 unfolding text_written
 returns c =
-    let room = c.if-room-needed.false in
+    let room : length c.args.text.now ≤ length c.args.out.now = omega arith in
     let all = all_fits [] (length c.args.text.now) c.args.text.now c.args.out.now refl refl room in
     record {
       value = c.done.ensures ∙ all.0;

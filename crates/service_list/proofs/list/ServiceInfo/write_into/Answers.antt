@@ -44,7 +44,7 @@ returns-then-room-needed c =
     in
     let same = c.put_all.auto.out in
     let long = ap (λ (a : Answer). a.first) size in
-    let less : length c.args.out.now < section_length c.args.self.count = omega (arith, long, same, c.if-room-needed.true) in
+    let less : length c.args.out.now < section_length c.args.self.count = omega (arith, long, same) in
     let left = room_refused c.args.self c.args.out.now held all less in
     record {
       value = c.buffer_too_short.ensures ∙ rw (size, same) left.0;
@@ -66,7 +66,7 @@ returns c =
     let same = c.put_all.auto.out in
     let long = ap (λ (a : Answer). a.first) size in
     let fits : section_length c.args.self.count ≤ length c.args.out.now =
-    omega (arith, long, same, c.if-room-needed.false)
+    omega (arith, long, same)
     in
     let left = section_put_lem c.args.self c.args.out.now held all fits in
     record { value = size ∙ left.0; out_after = rw (c.put_all.ensures.out_after, c.header_byte.ensures) left.1 }
