@@ -2,6 +2,7 @@ pub mod Bools
 pub mod Masks
 pub mod Puts
 pub mod Verdicts
+pub mod Readings
 pub mod Holds
 pub mod Places
 pub mod Writes

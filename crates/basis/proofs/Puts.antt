@@ -73,6 +73,13 @@ module _ (at : ℕ) (bytes buffer : List ℕ) where
   length_over h =
       rw (← copied_all (length bytes) (omega arith)) (length-paste buffer at bytes (length bytes) h (omega arith))
 
+-- bytes that take the place of as many are put
+pub copied_over : (at n : ℕ) (bytes buffer : List ℕ) → n ≡ length bytes
+    → take at buffer ++ (bytes ++ drop n (drop at buffer)) ≡ over at bytes buffer
+unfolding over
+copied_over at n bytes buffer h =
+    rw (h, drop-drop (length bytes) at buffer) (sym (append_assoc (take at buffer) bytes (drop (at + length bytes) buffer)))
+
 -- bytes that code stores one after the other are put
 pub stored_over : (at : ℕ) (bytes buffer : List ℕ) → at + length bytes ≤ length buffer
     → sets buffer at bytes ≡ over at bytes buffer

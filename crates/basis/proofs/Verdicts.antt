@@ -4,31 +4,14 @@
 use mathlib.Core.Path.{◌≡◌, ◌∙◌, sym, refl, ap}
 use mathlib.Core.Bool.{Bool, true, false, cond, true≢false, false≢true}
 use mathlib.Core.List.{List, [], ◌∷◌, ◌++◌}
-use Prim.Native.Nat.{ℕ, zero, suc, ◌+◌}
+use Prim.Native.Nat.{ℕ, zero, suc}
 use lib.Dec.{eqb}
 use lib.ListN.{drop}
-use Rattle.basis.specs.Answer as Table
-use Rattle.basis.specs.Answer.{Refusal, refused}
-use Rattle.basis.specs.Check.{
-  Check,
-  CheckOf,
-  Rule,
-  RuleAt,
-  Verdict,
-  VerdictOf,
-  when,
-  moved,
-  clear,
-  broken,
-  verdict,
-  answer,
-  place_of,
-  moved_rule,
-  if_clear,
-}
-use Rattle.basis.specs.Code.{alone, outcome, outcome_at, tested}
+use Rattle.basis.specs.Answer.{done, refused}
+use Rattle.basis.specs.declared.refusal.Refusal.{Refusal}
+use Rattle.basis.specs.declared.refusal.Refusal.TheVariants.{LengthMismatch, WrongMagic, UnknownFramerate, InvalidFixedBits, ChecksumFailed, SequenceCountMismatch, ServiceNumberMismatch, InvalidServiceNumber, ServiceFlagsMismatched, WouldOverflow, BufferTooShort, NotWritable, WrongCaptionRun}
+use Rattle.basis.specs.Check.{Check, CheckOf, Rule, RuleAt, Verdict, VerdictOf, when, moved, clear, broken, verdict, answer, moved_rule, if_clear}
 use Rattle.basis.specs.declared.answer.Answer.{Answer}
-use Rattle.basis.specs.declared.tested.Tested.{Tested}
 
 -- the first verdict, and the second where the first is clear
 abbrev pub and_then : {P : Type 0} → VerdictOf P → VerdictOf P → VerdictOf P
@@ -83,39 +66,21 @@ pub moved_refused : (from : ℕ) (v : Verdict) → eqb (answer v 0).number 0 ≡
     → eqb (answer (moved_verdict from v) 0).number 0 ≡ false
 moved_refused from v h = rw (moved_answer from v 0) h
 
--- and what its caller gives beside a refusal, made of answer, place and the other value, is made of the part's answer, at its
--- own place behind the caller's
-pub moved_shows : {A R : Type 0} (f : Answer → ℕ → A → R) (from : ℕ) (v : Verdict) (count : ℕ) (value other : A)
-    → eqb (answer v 0).number 0 ≡ false
-    → f (answer v 0) (from + place_of v) other
-    ≡ f (answer (moved_verdict from v) count) (place_of (moved_verdict from v)) (if_clear (moved_verdict from v) value other)
-moved_shows f from clear count value other h = absurd (true≢false h)
-moved_shows f from (broken rule) count value other h = refl
-
-pub moved_outcome : (from : ℕ) (v : Verdict) → eqb (answer v 0).number 0 ≡ false
-    → outcome_at (answer v 0) (from + place_of v) ≡ outcome (moved_verdict from v)
-moved_outcome from v h = moved_shows (λ (a : Answer) (place size : ℕ). outcome_at a place) from v 0 0 0 h
-
-pub moved_tested : (from : ℕ) (v : Verdict) (size : ℕ) → eqb (answer v 0).number 0 ≡ false
-    → alone (answer v 0) (from + place_of v) ≡ tested (moved_verdict from v) size
-moved_tested from v size h =
-    moved_shows {R = Tested} (λ (a : Answer) (place n : ℕ). record { answer = a; place = place; size = n }) from v 0 size 0 h
-
 -- no refusal has number 0, so that an answer is done exactly where its verdict is clear
 pub refused_not_done : (why : Refusal) → eqb (refused why).number 0 ≡ false
-refused_not_done (Table.LengthMismatch e a) = refl
-refused_not_done Table.WrongMagic = refl
-refused_not_done Table.UnknownFramerate = refl
-refused_not_done Table.InvalidFixedBits = refl
-refused_not_done Table.ChecksumFailed = refl
-refused_not_done Table.SequenceCountMismatch = refl
-refused_not_done Table.ServiceNumberMismatch = refl
-refused_not_done Table.InvalidServiceNumber = refl
-refused_not_done Table.ServiceFlagsMismatched = refl
-refused_not_done Table.WouldOverflow = refl
-refused_not_done (Table.BufferTooShort n g) = refl
-refused_not_done Table.NotWritable = refl
-refused_not_done Table.WrongCaptionRun = refl
+refused_not_done (LengthMismatch e a) = refl
+refused_not_done WrongMagic = refl
+refused_not_done UnknownFramerate = refl
+refused_not_done InvalidFixedBits = refl
+refused_not_done ChecksumFailed = refl
+refused_not_done SequenceCountMismatch = refl
+refused_not_done ServiceNumberMismatch = refl
+refused_not_done InvalidServiceNumber = refl
+refused_not_done ServiceFlagsMismatched = refl
+refused_not_done WouldOverflow = refl
+refused_not_done (BufferTooShort n g) = refl
+refused_not_done NotWritable = refl
+refused_not_done WrongCaptionRun = refl
 
 pub done_is_clear : {P : Type 0} (v : VerdictOf P) (length : ℕ) → eqb (answer v length).number 0 ≡ if_clear v true false
 done_is_clear clear length = refl
@@ -146,7 +111,7 @@ refused_shows f clear k l value other h = absurd (true≢false h)
 refused_shows f (broken rule) k l value other h = refl
 
 pub done_shows : {P A R : Type 0} (f : Answer → A → R) (v : VerdictOf P) (k l : ℕ) (value other : A)
-    → eqb (answer v k).number 0 ≡ true → f (Table.done l) value ≡ f (answer v l) (if_clear v value other)
+    → eqb (answer v k).number 0 ≡ true → f (done l) value ≡ f (answer v l) (if_clear v value other)
 done_shows f clear k l value other h = refl
 done_shows f (broken rule) k l value other h = absurd (false≢true (sym (refused_not_done rule.refusal) ∙ h))
 

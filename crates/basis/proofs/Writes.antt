@@ -9,7 +9,8 @@ use lib.Dec.{eqb}
 use lib.ListN.{length, take}
 use Rattle.basis.proofs.Puts.{take_over}
 use Rattle.basis.proofs.Verdicts.{and_then, refused_not_done, verdict_append}
-use Rattle.basis.specs.Answer.{BufferTooShort, done, refused}
+use Rattle.basis.specs.Answer.{done, refused}
+use Rattle.basis.specs.declared.refusal.Refusal.TheVariants.{BufferTooShort}
 use Rattle.basis.specs.Bytes.{over}
 use Rattle.basis.specs.Check.{WriteCheck, WriteVerdict, answer, broken, clear, room_check, verdict}
 use Rattle.basis.specs.Writing.{Written, written}

@@ -1,32 +1,26 @@
 -- The table of answers in docs/RULES.md: every number with the two values that go with it.
 use Rattle.std.specs.Prelude.{ℕ}
 use Rattle.basis.specs.declared.answer.Answer.{Answer}
+use Rattle.basis.specs.declared.refusal.Refusal.{Refusal}
+use Rattle.basis.specs.declared.refusal.Refusal.TheVariants.{
+  LengthMismatch,
+  WrongMagic,
+  UnknownFramerate,
+  InvalidFixedBits,
+  ChecksumFailed,
+  SequenceCountMismatch,
+  ServiceNumberMismatch,
+  InvalidServiceNumber,
+  ServiceFlagsMismatched,
+  WouldOverflow,
+  BufferTooShort,
+  NotWritable,
+  WrongCaptionRun,
+}
 
 -- 0: done, with a length where the call has one to give, else with 0
 abbrev pub done : ℕ → Answer
 done length = record { number = 0; first = length; second = 0 }
-
--- 1 to 13: why a call refuses
-pub data Refusal : Type 0 where
-  -- 1: the length that was expected, and the one that was met
-  LengthMismatch : ℕ → ℕ → Refusal
-  -- 2 to 9, in this order
-  WrongMagic : Refusal
-  UnknownFramerate : Refusal
-  InvalidFixedBits : Refusal
-  ChecksumFailed : Refusal
-  SequenceCountMismatch : Refusal
-  ServiceNumberMismatch : Refusal
-  InvalidServiceNumber : Refusal
-  ServiceFlagsMismatched : Refusal
-  -- 10: a list is full, or counts over 15
-  WouldOverflow : Refusal
-  -- 11: the bytes that are needed, and those that were lent
-  BufferTooShort : ℕ → ℕ → Refusal
-  -- 12: a value that cannot be written
-  NotWritable : Refusal
-  -- 13: captions that are no whole triplets, or more than 31 of them
-  WrongCaptionRun : Refusal
 
 -- an answer whose two values are 0
 abbrev pub plain : ℕ → Answer

@@ -1,7 +1,10 @@
 -- The form in which the rules are stated: lists of checks, in the order in which the rules make them.
-use Rattle.std.specs.Prelude.{Bool, cond, List, [], ◌∷◌, ℕ, ◌+◌, leb, length}
-use Rattle.basis.specs.Answer.{BufferTooShort, LengthMismatch, Refusal, done, refused}
+use Rattle.std.specs.Prelude.{Bool, cond, List, [], ◌∷◌, ℕ, ◌+◌, Result, Ok, Err, leb, length}
+use Rattle.basis.specs.Answer.{done, refused}
+use Rattle.basis.specs.declared.refusal.Refusal.{Refusal}
+use Rattle.basis.specs.declared.refusal.Refusal.TheVariants.{BufferTooShort, LengthMismatch}
 use Rattle.basis.specs.declared.answer.Answer.{Answer}
+use Rattle.basis.specs.declared.refusal.Refused.{Refused}
 use Rattle.basis.specs.declared.test.SizeTest.{SizeTest}
 use Rattle.basis.specs.declared.test.Test.{Test}
 use Rattle.basis.specs.declared.test.Test.TheVariants.{Size}
@@ -102,3 +105,31 @@ place_of (broken rule) = rule.at.place
 abbrev pub if_clear : {P A : Type 0} → VerdictOf P → A → A → A
 if_clear clear value other = value
 if_clear (broken rule) value other = other
+
+-- what a call gives: the value where all is clear, else what it says of the broken rule
+abbrev pub given_as : {P E A : Type 0} → (RuleAt P → E) → VerdictOf P → A → Result A E
+given_as says clear value = Ok value
+given_as says (broken rule) value = Err (says rule)
+
+-- of reading the refusal and its place; of writing, and of a call on a list, the refusal alone
+abbrev pub refused_at : Refusal → ℕ → Refused
+refused_at refusal place = record { refusal = refusal; place = place }
+
+abbrev pub read_as : {A : Type 0} → Verdict → A → Result A Refused
+read_as v value = given_as (λ (rule : Rule). refused_at rule.refusal rule.at.place) v value
+
+abbrev pub write_as : {A : Type 0} → WriteVerdict → A → Result A Refusal
+write_as v value = given_as (λ (rule : RuleAt Nowhere). rule.refusal) v value
+
+-- what the table has of it: beside 0 a length, where the call has one to give; and its place
+abbrev pub read_answer : {A : Type 0} → Result A Refused → ℕ → Answer
+read_answer (Ok value) length = done length
+read_answer (Err r) length = refused r.refusal
+
+abbrev pub write_answer : {A : Type 0} → Result A Refusal → ℕ → Answer
+write_answer (Ok value) length = done length
+write_answer (Err r) length = refused r
+
+abbrev pub read_place : {A : Type 0} → Result A Refused → ℕ
+read_place (Ok value) = 0
+read_place (Err r) = r.place

@@ -5,6 +5,7 @@ ghost use Rattle.basis.specs.Code as Code;
 ghost use Rattle.basis.specs.Check.{answer, room_check, verdict};
 
 use crate::answer::Answer;
+use crate::refusal::Refusal;
 
 // The byte at a place, 0 past the end.
 pub fn byte_at(bytes: &[u8], at: usize) -> u8
@@ -40,7 +41,7 @@ fn answered(needed: usize, given: usize) -> Answer
     ensures { result ≡ answer (verdict (room_check needed given ∷ [])) 0 }
 {
     if given < needed {
-        return Answer::buffer_too_short(needed, given);
+        return Answer::from(Refusal::BufferTooShort(needed, given));
     }
     Answer::done(0)
 }
@@ -49,7 +50,5 @@ fn copy(out: &mut [u8], at: usize, bytes: &[u8])
     requires { at + length bytes.now ≤ length out.old }
     ensures { out.new ≡ Bytes.over at bytes.now out.old }
 {
-    for k in 0..bytes.len() {
-        out[at + k] = bytes[k];
-    }
+    out[at..at + bytes.len()].copy_from_slice(bytes);
 }

@@ -4,11 +4,11 @@
 mod answer;
 mod bits;
 mod buffer;
+mod refusal;
 mod test;
-mod tested;
 
 pub use answer::Answer;
 pub use bits::flag;
 pub use buffer::{byte_at, put};
+pub use refusal::{Refusal, Refused};
 pub use test::{ByteTest, PairTest, SizeTest, Test};
-pub use tested::{Outcome, Tested};

@@ -9,6 +9,7 @@ mod sections;
 mod writing;
 
 use reader::CDPParser;
+use std::io;
 use values::Packet;
 
 // What stands in front of the packet.
@@ -18,27 +19,28 @@ fn main(rt: HostRuntime) {
     let mut input = [0u8; FRONT + 255];
     let mut captions = [0u8; CDPParser::CAPTION_ROOM];
     let mut out = [0u8; 255];
-    run(&rt, &mut input, &mut captions, &mut out);
+    // What failed has been said.
+    let _ = run(&rt, &mut input, &mut captions, &mut out);
 }
 
 // Of an input that cannot be read nothing is run.
-fn run(rt: &(impl Input + Print + Eprint), input: &mut [u8], captions: &mut [u8], out: &mut [u8]) {
-    let read = streams::read_all(rt, input);
-    if read.failed {
-        return;
-    }
-    let count = read.count;
+fn run(
+    rt: &(impl Input + Print + Eprint),
+    input: &mut [u8],
+    captions: &mut [u8],
+    out: &mut [u8],
+) -> io::Result<()> {
+    let count = streams::read_all(rt, input)?;
     if count < FRONT + Packet::MIN_PACKET_LEN {
-        streams::write(rt, b"input too short\n");
-        return;
+        return streams::write(rt, b"input too short\n");
     }
     let turns = number(input[1], input[2], input[3], input[4]);
     if input[0] == b'W' {
-        writing::turns(rt, &input[FRONT..count], turns, captions, out);
+        writing::turns(rt, &input[FRONT..count], turns, captions, out)
     } else if input[0] == b'S' {
-        sections::turns(rt, &input[FRONT..count], turns, captions, out);
+        sections::turns(rt, &input[FRONT..count], turns, captions, out)
     } else {
-        reading::turns(rt, &mut input[FRONT..count], turns, captions);
+        reading::turns(rt, &mut input[FRONT..count], turns, captions)
     }
 }
 

@@ -1,7 +1,7 @@
 // What the packet has, written again and again by one writer.
 use crate::print;
 use reader::CDPParser;
-use std::num::wrapping_add_u64;
+use std::io;
 use values::Framerate;
 use writer::CDPWriter;
 
@@ -12,18 +12,22 @@ pub fn turns(
     turns: u64,
     captions: &mut [u8],
     out: &mut [u8],
-) {
+) -> io::Result<()> {
     let read = CDPParser::new().parse(packet, captions);
     let length = read.answer.first;
     let parser = read.parser;
     if length < 2 {
-        streams::write(rt, b"no captions\n");
-        return;
+        return streams::write(rt, b"no captions\n");
     }
     if captions.len() < length {
-        return;
+        return Ok(());
     }
-    let framerate = parser.framerate.framerate;
+    // A refused packet leaves none, and zeros are then what is to be written.
+    let framerate = parser.framerate.unwrap_or(Framerate {
+        id: 0,
+        numer: 0,
+        denom: 0,
+    });
     write(
         rt,
         holding(parser),
@@ -31,7 +35,7 @@ pub fn turns(
         turns,
         &captions[2..length],
         out,
-    );
+    )
 }
 
 fn holding(parser: CDPParser) -> CDPWriter {
@@ -50,22 +54,15 @@ fn write(
     turns: u64,
     captions: &[u8],
     out: &mut [u8],
-) {
+) -> io::Result<()> {
     let mut writer = first;
-    let mut answers = 0;
+    let mut answers: u64 = 0;
     let mut length = 0;
     for turn in 0..turns {
         writer = writer.set_sequence_count((turn % 65536) as u16);
         let answer = writer.write(framerate, captions, out);
-        answers = wrapping_add_u64(answers, answer.number as u64);
+        answers = answers.wrapping_add(answer.number as u64);
         length = answer.first;
     }
-    shown(rt, answers, length, out);
-}
-
-// Behind a line that cannot be written there are no others.
-fn shown(rt: &(impl Print + Eprint), answers: u64, length: usize, packet: &[u8]) -> bool {
-    print::number(rt, b"answers ", answers)
-        && print::number(rt, b"length ", length as u64)
-        && print::sum(rt, b"packet ", packet)
+    print::turns(rt, answers, length, b"packet ", out)
 }

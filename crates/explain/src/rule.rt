@@ -12,17 +12,8 @@ pub fn reason_rule(reason: Reason) -> u8
 {
     match reason {
         Reason::Accepted => 0,
-        Reason::OfSize(failed) => {
-            let test = failed.test;
-            rule_of(Test::Size(test))
-        }
-        Reason::OfPair(failed) => {
-            let test = failed.test;
-            rule_of(Test::Pair(test))
-        }
-        Reason::OfByte(failed) => {
-            let test = failed.test;
-            rule_of(Test::Byte(test))
-        }
+        Reason::OfSize(failed) => rule_of(Test::Size(failed.test)),
+        Reason::OfPair(failed) => rule_of(Test::Pair(failed.test)),
+        Reason::OfByte(failed) => rule_of(Test::Byte(failed.test)),
     }
 }

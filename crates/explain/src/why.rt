@@ -40,7 +40,7 @@ pub enum Reason {
     OfByte(FailedByte),
 }
 
-// The reader's answer and place, and the reason.
+// The reader's answer and place, and the reason. No Result: an accepted packet has an answer and a place to tell too.
 #[derive(Clone, Copy)]
 pub struct Why {
     pub answer: Answer,
@@ -52,21 +52,21 @@ impl Why {
     pub fn of(packet: &[u8]) -> Self
         ensures { result ≡ why_of packet.now }
     {
-        let checked = Checked::parse(packet);
-        let answer = checked.answer;
-        let place = checked.place;
-        if answer.is_done() {
-            return Self {
-                answer,
-                place,
+        match Checked::parse(packet) {
+            Ok(checked) => Self {
+                answer: Answer::done(checked.captions),
+                place: 0,
                 reason: Reason::Accepted,
-            };
-        }
-        let test = test_of(packet, answer.number, place);
-        Self {
-            answer,
-            place,
-            reason: reason_for(packet, test, place, answer.first),
+            },
+            Err(refused) => {
+                let answer = Answer::from(refused.refusal);
+                let test = test_of(packet, refused.refusal, refused.place);
+                Self {
+                    answer,
+                    place: refused.place,
+                    reason: reason_for(packet, test, refused.place, answer.first),
+                }
+            }
         }
     }
 }

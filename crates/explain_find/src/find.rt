@@ -1,5 +1,5 @@
-// The test that is left by the answer's number and its place. Each part begins where the one in front of it ends, so
-// that a place tells its part, and a size the part that the packet ends in.
+// The test that is left by the refusal and its place. Each part begins where the one in front of it ends, so that a
+// place tells its part, and a size the part that the packet ends in.
 ghost use Rattle.std.specs.Prelude.{cond, ◌≡◌, ◌+◌, ◌≤◌, eqb, length};
 ghost use Rattle.basis.specs.declared.test.PairTest.TheVariants.{Magic};
 ghost use Rattle.basis.specs.declared.test.Test.TheVariants.{Byte, Pair};
@@ -7,26 +7,33 @@ ghost use Rattle.values.specs.Layout.{section_head_size};
 ghost use Rattle.explain_find.specs.Code.{bits_test, closing_test, entry_test, id_test, size_test, test_from, time_test};
 
 use crate::layout::{captions_at, closing_at, services_at};
-use basis::{ByteTest, PairTest, SizeTest, Test, byte_at};
+use basis::{ByteTest, PairTest, Refusal, SizeTest, Test, byte_at};
 use values::Packet;
 
-pub fn test_of(packet: &[u8], number: u8, place: usize) -> Test
-    ensures { result ≡ test_from packet.now number place }
+#[tactic(auto, unfolding(crate::specs::Code::test_from))]
+pub fn test_of(packet: &[u8], refusal: Refusal, place: usize) -> Test
+    ensures { result ≡ test_from packet.now refusal place }
 {
-    match number {
-        1 => Test::Size(size_test(packet)),
-        2 => id_or_magic(packet, place),
-        3 => Test::Byte(ByteTest::Rate),
-        4 => Test::Byte(bits_test(packet, place)),
-        5 => Test::Byte(ByteTest::Checksum),
-        6 => Test::Pair(PairTest::FooterSequence),
-        7 => Test::Byte(ByteTest::HeaderNumber),
-        8 => Test::Byte(ByteTest::KindNumber),
-        _ => Test::Byte(ByteTest::ServicesFlags),
+    match refusal {
+        Refusal::LengthMismatch(_, _) => Test::Size(size_test(packet)),
+        Refusal::WrongMagic => id_or_magic(packet, place),
+        Refusal::UnknownFramerate => Test::Byte(ByteTest::Rate),
+        Refusal::InvalidFixedBits => Test::Byte(bits_test(packet, place)),
+        Refusal::ChecksumFailed => Test::Byte(ByteTest::Checksum),
+        Refusal::SequenceCountMismatch => Test::Pair(PairTest::FooterSequence),
+        Refusal::ServiceNumberMismatch => Test::Byte(ByteTest::HeaderNumber),
+        Refusal::InvalidServiceNumber => Test::Byte(ByteTest::KindNumber),
+        Refusal::ServiceFlagsMismatched
+        // No reader refuses by these.
+        | Refusal::WouldOverflow
+        | Refusal::BufferTooShort(_, _)
+        | Refusal::NotWritable
+        | Refusal::WrongCaptionRun => Test::Byte(ByteTest::ServicesFlags),
     }
 }
 
 // The part that the packet ends in.
+#[tactic(auto, unfolding(crate::specs::Code::size_test))]
 fn size_test(packet: &[u8]) -> SizeTest
     ensures { result ≡ size_test packet.now }
 {
@@ -70,6 +77,8 @@ fn closing_test(packet: &[u8], from: usize) -> SizeTest
 {
     let size = packet.len();
     let mut i = from;
+    // No `for`, and the reader's walk once more: each section's own length says where the next one begins, and read_closing
+    // gives no test (decision 110).
     while packet[i] != Packet::CDP_FOOTER_ID {
         let length = packet[i + 1] as usize;
         if size < i + 1 + length {
@@ -95,6 +104,7 @@ fn id_or_magic(packet: &[u8], place: usize) -> Test
 }
 
 // The part that an id byte begins.
+#[tactic(auto, unfolding(crate::specs::Code::id_test))]
 fn id_test(packet: &[u8], place: usize) -> ByteTest
     ensures { result ≡ id_test packet.now place }
 {
@@ -111,6 +121,7 @@ fn id_test(packet: &[u8], place: usize) -> ByteTest
 }
 
 // The byte that has fixed bits.
+#[tactic(auto, unfolding(crate::specs::Code::bits_test))]
 fn bits_test(packet: &[u8], place: usize) -> ByteTest
     ensures { result ≡ bits_test packet.now place }
 {
@@ -130,6 +141,7 @@ fn bits_test(packet: &[u8], place: usize) -> ByteTest
     )
 }
 
+#[tactic(auto, unfolding(crate::specs::Code::time_test))]
 fn time_test(place: usize) -> ByteTest
     ensures { result ≡ time_test place }
 {
@@ -143,6 +155,7 @@ fn time_test(place: usize) -> ByteTest
 }
 
 // Of an entry with its header byte: the place in its seven bytes, and the byte there.
+#[tactic(auto, unfolding(crate::specs::Code::entry_test))]
 fn entry_test(place: usize, byte: u8) -> ByteTest
     ensures { result ≡ entry_test place byte }
 {

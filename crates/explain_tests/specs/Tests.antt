@@ -1,5 +1,5 @@
 -- The numbered tests of reading, one row each: the rule that makes the test in a packet, and what the test takes.
-use Rattle.std.specs.Prelude.{Bool, true, false, not, ◌&&◌, ◌||◌, List, [], ◌∷◌, ℕ, ◌+◌, ◌*◌, eqb, leb}
+use Rattle.std.specs.Prelude.{Bool, true, false, not, ◌&&◌, ◌||◌, List, [], ◌∷◌, ℕ, ◌+◌, ◌*◌, eqb, is_some, leb}
 use Rattle.basis.specs.Bytes.{byte}
 use Rattle.basis.specs.Mask.{all_clear, all_set, bit_run, under, x20, x3e, x3f, x40, x70, x80, xc0, xe0, xf0}
 use Rattle.basis.specs.declared.test.ByteTest.{ByteTest}
@@ -120,7 +120,7 @@ flags_wanted p = under xe0 (byte p 4) * 8 + under x70 (byte p (services_at p + 1
 -- 3.1; 5.2 to 5.5; 6.2, 6.3; 7.2; S2, S3; S5, S6; E1, E2a, E2b, E3, E4; S8; 7.4; 8.2; 9.3. E2a asks of a digital service alone,
 -- E2b of a field; 8.2 asks of what is not the footer
 abbrev pub byte_row : ByteTest → ByteRow
-byte_row Rate = by_itself 3 (λ v. (from_id (under xf0 v)).present) []
+byte_row Rate = by_itself 3 (λ v. is_some (from_id (under xf0 v))) []
 byte_row TimeId = by_itself 5 (λ v. eqb v time_code_id) []
 byte_row Hours = by_itself 5 (λ v. all_set xc0 v) []
 byte_row Minutes = by_itself 5 (λ v. all_set x80 v) []

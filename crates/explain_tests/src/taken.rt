@@ -14,7 +14,7 @@ pub fn takes(test: ByteTest, said: u8, value: u8) -> bool
     ensures { result ≡ Tests.takes test said value }
 {
     match test {
-        ByteTest::Rate => Framerate::from_id(value / 16 % 16).present,
+        ByteTest::Rate => Framerate::from_id(value / 16 % 16).is_some(),
         ByteTest::TimeId => value == Packet::TIME_CODE_ID,
         ByteTest::Hours => value / 64 % 4 == 3,
         ByteTest::Minutes => value / 128 % 2 == 1,

@@ -1,6 +1,6 @@
 -- Rule 6: the captions, 2+3c bytes from i on, and what is handed out of them.
 use Rattle.std.specs.Prelude.{List, [], ◌∷◌, ℕ, ◌+◌, ◌*◌, eqb}
-use Rattle.basis.specs.Answer.{WrongMagic, InvalidFixedBits}
+use Rattle.basis.specs.declared.refusal.Refusal.TheVariants.{WrongMagic, InvalidFixedBits}
 use Rattle.basis.specs.Bytes.{byte, part}
 use Rattle.basis.specs.Check.{Check, check_at, size_check}
 use Rattle.basis.specs.declared.test.SizeTest.TheVariants.{CaptionsHead, CaptionsWhole}

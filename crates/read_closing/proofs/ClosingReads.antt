@@ -6,11 +6,12 @@ use Prim.Native.Nat.{ℕ, zero, suc, ◌+◌, ◌-◌, ◌≤◌, ◌<◌}
 use native.Mathlib.Omega.{arith}
 use borrow.Author.Tests.{eq-eqb, ne_eqb, le-leb, lt-leb}
 use lib.ListN.{length}
+use Rattle.std.specs.Prelude.{Ok, Err}
 use Rattle.basis.proofs.Verdicts.{and_then, verdict_append}
-use Rattle.basis.specs.Answer.{ChecksumFailed, LengthMismatch, SequenceCountMismatch, WrongMagic, done, refused}
+use Rattle.basis.specs.declared.refusal.Refusal.TheVariants.{ChecksumFailed, LengthMismatch, SequenceCountMismatch, WrongMagic}
 use Rattle.basis.specs.Bytes.{byte}
-use Rattle.basis.specs.Check.{Verdict, verdict}
-use Rattle.basis.specs.Code.{outcome, outcome_at}
+use Rattle.basis.specs.Check.{Verdict, refused_at, verdict}
+use Rattle.basis.specs.Code.{outcome}
 use Rattle.values.specs.Sequence.{sequence_of}
 use Rattle.values.specs.Layout.{footer_size}
 use Rattle.read_closing.specs.Closing.{
@@ -27,23 +28,23 @@ use Rattle.read_closing.specs.Code.{closing_read, footer_read}
 -- rule 9
 module _ (p : List ℕ) (sequence i : ℕ) where
   pub footer_short : length p < i + footer_size
-      → outcome_at (refused (LengthMismatch (i + footer_size) (length p))) (length p) ≡ footer_read p sequence i
+      → Err (refused_at (LengthMismatch (i + footer_size) (length p)) (length p)) ≡ footer_read p sequence i
   unfolding footer_read
   footer_short a = simp (lt-leb _ _ a)
 
   module _ (long : i + footer_size ≤ length p) where
     pub other_sequence : (sequence_of (byte p (i + 1)) (byte p (i + 2)) ≡ sequence → ⊥)
-        → outcome_at (refused SequenceCountMismatch) (i + 1) ≡ footer_read p sequence i
+        → Err (refused_at SequenceCountMismatch (i + 1)) ≡ footer_read p sequence i
     unfolding footer_read
     other_sequence a = simp (le-leb _ _ long, ne_eqb _ _ a)
 
     module _ (same : sequence_of (byte p (i + 1)) (byte p (i + 2)) ≡ sequence) where
       pub other_checksum : (byte p (i + 3) ≡ checksum_of p → ⊥)
-          → outcome_at (refused ChecksumFailed) (i + 3) ≡ footer_read p sequence i
+          → Err (refused_at ChecksumFailed (i + 3)) ≡ footer_read p sequence i
       unfolding footer_read
       other_checksum a = simp (le-leb _ _ long, eq-eqb _ _ same, ne_eqb _ _ a)
 
-      pub footer_whole : byte p (i + 3) ≡ checksum_of p → outcome_at (done 0) 0 ≡ footer_read p sequence i
+      pub footer_whole : byte p (i + 3) ≡ checksum_of p → Ok tt ≡ footer_read p sequence i
       unfolding footer_read
       footer_whole a = simp (le-leb _ _ long, eq-eqb _ _ same, eq-eqb _ _ a)
 
@@ -60,7 +61,7 @@ pub record Reached (p : List ℕ) (sequence at i : ℕ) : Type 0 where
 
 module _ (p : List ℕ) (sequence at : ℕ) where
   pub nothing_there : length p < at + 2
-      → outcome_at (refused (LengthMismatch (at + 2) (length p))) (length p) ≡ closing_read p sequence at
+      → Err (refused_at (LengthMismatch (at + 2) (length p)) (length p)) ≡ closing_read p sequence at
   unfolding closing_read closing_checks
   nothing_there a = simp (lt-leb _ _ a)
 
@@ -99,21 +100,21 @@ module _ (p : List ℕ) (sequence at : ℕ) where
           ≡ closing_read p sequence at
       as_turn = ap outcome (sym (ahead_future i r.turns (omega arith) other)) ∙ r.left
 
-      pub id_low : byte p i < 0x75 → outcome_at (refused WrongMagic) i ≡ closing_read p sequence at
+      pub id_low : byte p i < 0x75 → Err (refused_at WrongMagic i) ≡ closing_read p sequence at
       id_low a = simp (lt-leb _ _ a) at as_turn
 
       module _ (low : 0x75 ≤ byte p i) where
-        pub id_high : 0xEF < byte p i → outcome_at (refused WrongMagic) i ≡ closing_read p sequence at
+        pub id_high : 0xEF < byte p i → Err (refused_at WrongMagic i) ≡ closing_read p sequence at
         id_high a = simp (le-leb _ _ low, lt-leb _ _ a) at as_turn
 
         module _ (high : byte p i ≤ 0xEF) where
           pub future_cut : length p < i + 1 + byte p (i + 1)
-              → outcome_at (refused (LengthMismatch (i + 1 + byte p (i + 1)) (length p))) (length p) ≡ closing_read p sequence at
+              → Err (refused_at (LengthMismatch (i + 1 + byte p (i + 1)) (length p)) (length p)) ≡ closing_read p sequence at
           future_cut a = simp (le-leb _ _ low, le-leb _ _ high, lt-leb _ _ a) at as_turn
 
           module _ (fits : i + 1 + byte p (i + 1) ≤ length p) where
             pub nothing_behind : length p < i + 2 + byte p (i + 1) + 2
-                → outcome_at (refused (LengthMismatch (i + 2 + byte p (i + 1) + 2) (length p))) (length p)
+                → Err (refused_at (LengthMismatch (i + 2 + byte p (i + 1) + 2) (length p)) (length p))
                 ≡ closing_read p sequence at
             nothing_behind a = simp (le-leb _ _ low, le-leb _ _ high, le-leb _ _ fits, lt-leb _ _ a) at as_turn
 

@@ -1,6 +1,6 @@
 -- Rules 8 and 9: future sections from i on, and the footer behind them.
 use Rattle.std.specs.Prelude.{cond, ◌&&◌, List, [], ◌∷◌, ◌++◌, ℕ, zero, suc, ◌+◌, ◌-◌, eqb, leb, length, take}
-use Rattle.basis.specs.Answer.{WrongMagic, SequenceCountMismatch, ChecksumFailed}
+use Rattle.basis.specs.declared.refusal.Refusal.TheVariants.{WrongMagic, SequenceCountMismatch, ChecksumFailed}
 use Rattle.basis.specs.Bytes.{byte}
 use Rattle.basis.specs.Check.{Check, check_at, size_check}
 use Rattle.basis.specs.declared.test.SizeTest.TheVariants.{ClosingHead, FutureWhole, FutureNext, FooterWhole}

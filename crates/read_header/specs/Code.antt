@@ -1,24 +1,19 @@
 -- Follows the code and not the rules: what reading the header alone gives.
-use Rattle.std.specs.Prelude.{List, ℕ}
-use Rattle.basis.specs.Check.{verdict, answer, place_of, if_clear}
-use Rattle.values.specs.Code.{no_flags}
-use Rattle.values.specs.Rate.{no_rate}
+use Rattle.std.specs.Prelude.{List, ℕ, Result, unwrap_or}
+use Rattle.basis.specs.Check.{verdict, read_as}
+use Rattle.values.specs.Rate.{row}
 use Rattle.read_header.specs.declared.header.Header.{Header}
-use Rattle.basis.specs.declared.answer.Answer.{Answer}
+use Rattle.basis.specs.declared.refusal.Refused.{Refused}
 use Rattle.read_header.specs.Header.{rate_of, flags_in, sequence_in, header_checks}
+use Rattle.values.specs.declared.framerate.Framerate.{Framerate}
+
+-- the rate of a header that is right, which has one
+abbrev pub rate_in : List ℕ → Framerate
+rate_in p = unwrap_or (rate_of p) (row 0 0 0)
+
+abbrev pub header_of : List ℕ → Header
+header_of p = record { framerate = rate_in p; flags = flags_in p; sequence = sequence_in p }
 
 -- what reading the header gives
-unfoldable pub header_read : List ℕ → Header
-header_read p =
-    let v = verdict (header_checks p) in
-    record {
-      answer = answer v 0;
-      place = place_of v;
-      framerate = if_clear v (rate_of p) no_rate;
-      flags = if_clear v (flags_in p) no_flags;
-      sequence = if_clear v (sequence_in p) 0;
-    }
-
--- a refusal shows nothing
-abbrev pub refused_header : Answer → ℕ → Header
-refused_header a place = record { answer = a; place = place; framerate = no_rate; flags = no_flags; sequence = 0 }
+unfoldable pub header_read : List ℕ → Result Header Refused
+header_read p = read_as (verdict (header_checks p)) (header_of p)

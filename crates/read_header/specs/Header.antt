@@ -1,6 +1,6 @@
 -- Rules 2 to 4: the first seven bytes.
-use Rattle.std.specs.Prelude.{◌&&◌, List, [], ◌∷◌, ◌++◌, ℕ, eqb, length}
-use Rattle.basis.specs.Answer.{LengthMismatch, WrongMagic, UnknownFramerate}
+use Rattle.std.specs.Prelude.{◌&&◌, List, [], ◌∷◌, ◌++◌, ℕ, Option, is_some, eqb, length}
+use Rattle.basis.specs.declared.refusal.Refusal.TheVariants.{LengthMismatch, WrongMagic, UnknownFramerate}
 use Rattle.basis.specs.Bytes.{byte}
 use Rattle.basis.specs.Check.{Check, check_at, size_check}
 use Rattle.basis.specs.declared.test.SizeTest.TheVariants.{PacketLeast, PacketSize}
@@ -13,10 +13,10 @@ use Rattle.values.specs.Layout.{least_size}
 use Rattle.values.specs.Rate.{from_id}
 use Rattle.values.specs.Sequence.{sequence_of}
 use Rattle.values.specs.declared.flags.Flags.{Flags}
-use Rattle.values.specs.declared.framerate.MaybeFramerate.{MaybeFramerate}
+use Rattle.values.specs.declared.framerate.Framerate.{Framerate}
 
 -- rule 3: the id is the high four bits of byte 3
-abbrev pub rate_of : List ℕ → MaybeFramerate
+abbrev pub rate_of : List ℕ → Option Framerate
 rate_of p = from_id (under xf0 (byte p 3))
 
 -- rule 4: the flags are byte 4, the sequence bytes 5 and 6
@@ -36,7 +36,7 @@ packet_frame_checks p =
 
 -- rule 3. 3.1: one of the eight rates
 abbrev pub rate_checks : List ℕ → List Check
-rate_checks p = check_at 3 (Byte Rate) (rate_of p).present UnknownFramerate ∷ []
+rate_checks p = check_at 3 (Byte Rate) (is_some (rate_of p)) UnknownFramerate ∷ []
 
 abbrev pub header_checks : List ℕ → List Check
 header_checks p = packet_frame_checks p ++ rate_checks p

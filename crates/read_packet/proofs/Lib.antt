@@ -1,4 +1,2 @@
 pub mod Answers
 pub mod PacketReads
-mod PacketAsked
-mod PacketParts

@@ -12,23 +12,16 @@ use lib.ListN.{drop, length, length-drop, length-take}
 use lib.Seq.{length-take-le}
 use Rattle.basis.proofs.Holds.{Inside, at_size, both, fixed, none, part_inside}
 use Rattle.basis.proofs.Places.{byte_of_part}
-use Rattle.basis.proofs.Verdicts.{
-  and_then,
-  done_clear,
-  kept_at_lem,
-  moved_refused,
-  moved_tested,
-  moved_verdict,
-  refused_stays,
-  verdict_append,
-  verdict_moved,
-}
-use Rattle.basis.specs.Answer.{LengthMismatch, ServiceFlagsMismatched, WrongMagic, done, refused}
+use Rattle.basis.proofs.Readings.{given_clear, refused_first, refused_moved}
+use Rattle.basis.proofs.Verdicts.{and_then, kept_at_lem, moved_verdict, verdict_append, verdict_moved}
+use Rattle.basis.specs.declared.refusal.Refusal.TheVariants.{LengthMismatch, ServiceFlagsMismatched, WrongMagic}
+use Rattle.basis.specs.declared.refusal.Refused.{Refused}
+use Rattle.std.specs.Prelude.{Ok, Err}
 use Rattle.basis.specs.Bytes.{byte, part}
-use Rattle.basis.specs.Check.{Check, Verdict, check_at, clear, moved, verdict}
+use Rattle.basis.specs.Check.{Check, Verdict, check_at, clear, moved, refused_at, verdict}
 use Rattle.basis.specs.declared.test.ByteTest.TheVariants.{ServicesFlags}
 use Rattle.basis.specs.declared.test.Test.TheVariants.{Byte}
-use Rattle.basis.specs.Code.{alone, sized, tested}
+use Rattle.basis.specs.Code.{tested}
 use Rattle.values.specs.Layout.{section_length}
 use Rattle.basis.specs.Mask.{under, x0f}
 use Rattle.service_entries.proofs.SectionPlaces.{section_near, section_within}
@@ -69,12 +62,12 @@ pub count_at : (p : List ℕ) (i : ℕ) → count_of (services_part p i) ≡ und
 count_at p i = ap (under x0f) (byte_one p i)
 
 -- what a section is refused for has its place in the section or at its end, as the code has its bytes
-pub near : (p : List ℕ) (i header : ℕ)
-    → (section_outcome (part i (i + section_length (header % 16) - i) p)).place ≤ section_length 15
-near p i header =
+pub near : (p : List ℕ) (i header : ℕ) (r : Refused) → section_outcome (part i (i + section_length (header % 16) - i) p) ≡ Err r
+    → r.place ≤ section_length 15
+near p i header r h =
     let size : ℕ = i + section_length (header % 16) - i in
     let long : length (part i size p) ≤ size = simp length-take (omega arith) in
-    omega (arith, section_near (part i size p), long)
+    omega (arith, section_near (part i size p) r h, long)
 
 -- in a packet its bytes are as many as it says, so that S4 refuses none
 own_size : (p : List ℕ) (i : ℕ) → i + services_size p i ≤ length p → length (services_part p i) ≡ services_size p i
@@ -103,23 +96,23 @@ module _ (p : List ℕ) (f : Flags) (i : ℕ) where
   abbrev flags_test : Check
   flags_test = check_at 4 (Byte ServicesFlags) (same_flags (list_of bytes) f) ServiceFlagsMismatched
 
-  pub not_there : f.svc_info ≡ false → alone (done 0) 0 ≡ services_tested p f i
+  pub not_there : f.svc_info ≡ false → Ok 0 ≡ services_tested p f i
   unfolding services_tested
   not_there a = simp a
 
   module _ (there : f.svc_info ≡ true) where
-    pub too_short : length p < i + 2 → alone (refused (LengthMismatch (i + 2) (length p))) (length p) ≡ services_tested p f i
+    pub too_short : length p < i + 2 → Err (refused_at (LengthMismatch (i + 2) (length p)) (length p)) ≡ services_tested p f i
     unfolding services_tested
     too_short a = simp (there, lt-leb _ _ a)
 
     module _ (long : i + 2 ≤ length p) where
-      pub other_id : (byte p i ≡ 0x73 → ⊥) → alone (refused WrongMagic) i ≡ services_tested p f i
+      pub other_id : (byte p i ≡ 0x73 → ⊥) → Err (refused_at WrongMagic i) ≡ services_tested p f i
       unfolding services_tested
       other_id a = simp (there, le-leb _ _ long, ne_eqb _ _ a)
 
       module _ (id : byte p i ≡ 0x73) where
         pub entries_cut : length p < i + size
-            → alone (refused (LengthMismatch (i + size) (length p))) (length p) ≡ services_tested p f i
+            → Err (refused_at (LengthMismatch (i + size) (length p)) (length p)) ≡ services_tested p f i
         unfolding services_tested
         entries_cut a = simp (there, le-leb _ _ long, eq-eqb _ _ id, as_count, lt-leb _ _ a)
 
@@ -134,15 +127,12 @@ module _ (p : List ℕ) (f : Flags) (i : ℕ) where
               ∙ ap (λ (v : Verdict). tested v size) (sym (verdict_append (moved i (section_checks bytes)) (flags_test ∷ [])))
               ∙ simp (there, le-leb _ _ long, eq-eqb _ _ id, as_count, as_size, le-leb _ _ fits)
 
-          pub section_refused : eqb (section_outcome bytes).answer.number 0 ≡ false
-              → alone (section_outcome bytes).answer (i + (section_outcome bytes).place) ≡ services_tested p f i
+          pub section_refused : (r : Refused) → section_outcome bytes ≡ Err r
+              → Err (refused_at r.refusal (i + r.place)) ≡ services_tested p f i
           unfolding section_outcome
-          section_refused h =
+          section_refused r h =
               let own : Verdict = verdict (section_checks bytes) in
-              moved_tested i own size h
-              ∙ ap (λ (v : Verdict). tested v size)
-              (sym (refused_stays (moved_verdict i own) (verdict (flags_test ∷ [])) 0 (moved_refused i own h)))
-              ∙ as_parts
+              refused_first _ (moved_verdict i own) (verdict (flags_test ∷ [])) size size _ (sym (refused_moved i own tt size r h)) ∙ as_parts
 
           -- byte 1 of the section, as the code has it, has the list's flags
           the_flags : same_flags (list_with (byte p (i + 1)) []) f ≡ same_flags (list_of bytes) f
@@ -151,18 +141,18 @@ module _ (p : List ℕ) (f : Flags) (i : ℕ) where
               let second : byte bytes 1 ≡ byte p (i + 1) = byte_of_part p i (i + size - i) 1 (omega arith) in
               rw second
 
-          module _ (kept : eqb (section_outcome bytes).answer.number 0 ≡ true) where
+          module _ (u : Unit) (kept : section_outcome bytes ≡ Ok u) where
             own_clear : verdict (section_checks bytes) ≡ clear
             unfolding section_outcome
-            own_clear = done_clear _ 0 kept
+            own_clear = given_clear _ (verdict (section_checks bytes)) tt u kept
 
             pub other_flags : same_flags (list_with (byte p (i + 1)) []) f ≡ false
-                → alone (refused ServiceFlagsMismatched) 4 ≡ services_tested p f i
+                → Err (refused_at ServiceFlagsMismatched 4) ≡ services_tested p f i
             other_flags h =
                 let differ : same_flags (list_of bytes) f ≡ false = sym the_flags ∙ h in
                 simp (own_clear, differ) at as_parts
 
-            pub services_whole : same_flags (list_with (byte p (i + 1)) []) f ≡ true → sized size ≡ services_tested p f i
+            pub services_whole : same_flags (list_with (byte p (i + 1)) []) f ≡ true → Ok size ≡ services_tested p f i
             services_whole h =
                 let agree : same_flags (list_of bytes) f ≡ true = sym the_flags ∙ h in
                 simp (own_clear, agree) at as_parts

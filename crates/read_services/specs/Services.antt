@@ -1,7 +1,7 @@
 -- Rule 7: the service section, 2+7s bytes from i on.
 use Rattle.std.specs.Prelude.{Bool, cond, ◌&&◌, List, [], ◌∷◌, ◌++◌, ℕ, ◌+◌, eqb}
 use Rattle.std.specs.Bool.{beq}
-use Rattle.basis.specs.Answer.{WrongMagic, ServiceFlagsMismatched}
+use Rattle.basis.specs.declared.refusal.Refusal.TheVariants.{WrongMagic, ServiceFlagsMismatched}
 use Rattle.basis.specs.Bytes.{byte, part}
 use Rattle.basis.specs.Check.{Check, check_at, moved, size_check}
 use Rattle.basis.specs.declared.test.SizeTest.TheVariants.{ServicesHead, ServicesWhole}

@@ -1,6 +1,6 @@
 -- Rule 5: the time code, five bytes from i on.
 use Rattle.std.specs.Prelude.{Bool, cond, List, ◌∷◌, ℕ, ◌+◌, eqb}
-use Rattle.basis.specs.Answer.{WrongMagic}
+use Rattle.basis.specs.declared.refusal.Refusal.TheVariants.{WrongMagic}
 use Rattle.basis.specs.Bytes.{byte}
 use Rattle.basis.specs.Check.{Check, check_at, moved, size_check}
 use Rattle.basis.specs.declared.test.SizeTest.TheVariants.{TimeWhole}

@@ -3,4 +3,3 @@ pub mod ListMade
 pub mod PacketShown
 pub mod ReaderReads
 pub mod Refusals
-mod PacketTested

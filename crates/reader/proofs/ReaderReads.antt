@@ -6,21 +6,22 @@ use mathlib.Core.List.{List, []}
 use mathlib.Core.Path.{◌≡◌, ◌∙◌, sym, refl, ap}
 use Prim.Native.Nat.{ℕ, ◌+◌, ◌≤◌, ◌<◌}
 use borrow.Author.Tests.{le-leb, lt-leb}
-use lib.Dec.{eqb}
 use lib.ListN.{length}
-use Rattle.basis.proofs.Verdicts.{refused_shows, when_there}
-use Rattle.basis.specs.Answer.{BufferTooShort, done, refused}
+use Rattle.std.specs.Prelude.{Err}
+use Rattle.basis.proofs.Readings.{refused_gives}
+use Rattle.basis.proofs.Verdicts.{when_there}
+use Rattle.basis.specs.declared.refusal.Refused.{Refused}
+use Rattle.basis.specs.Answer.{done, refused}
+use Rattle.basis.specs.declared.refusal.Refusal.TheVariants.{BufferTooShort}
 use Rattle.basis.specs.Bytes.{over}
 use Rattle.basis.specs.Check.{Verdict, answer, clear, if_clear, place_of, size_when, verdict}
 use Rattle.read_captions.proofs.CaptionsReads.{captions_there, handed_long}
 use Rattle.read_captions.specs.Captions.{captions_checks, captions_size, handed_out}
 use Rattle.read_header.specs.Header.{flags_in}
 use Rattle.read_packet.proofs.PacketReads.{captions_of_packet}
-use Rattle.reader.proofs.PacketShown.{all_shown, packet_clear}
 use Rattle.read_packet.specs.Packet.{captions_length, captions_at, packet_checks}
-use Rattle.reader.specs.Shown.{fresh_reader, shown_by}
-use Rattle.reader.specs.Code.{packet_read}
-use Rattle.reader.specs.declared.packet_read.PacketRead.{PacketRead}
+use Rattle.reader.specs.Shown.{shown_by}
+use Rattle.read_packet.specs.Code.{checked_read, checked_shown}
 use Rattle.reader.specs.Reader.{buffer_after, captions_of, cleared, read}
 use Rattle.reader.specs.declared.parser.CDPParser.{CDPParser}
 use Rattle.reader.specs.declared.parser.CDPParserRead.{CDPParserRead}
@@ -58,28 +59,16 @@ module _ (s : CDPParser) (p : List ℕ) (room : ℕ) where
     unfolding read
     as_packet = simp (le-leb _ _ enough)
 
-    pub packet_refused : {a : Answer} {place : ℕ} → a ≡ (packet_read p).answer → place ≡ (packet_read p).place
-        → eqb (packet_read p).answer.number 0 ≡ false → result place a (cleared s) ≡ read s p room
-    unfolding packet_read
-    packet_refused answered placed wrong =
-        let v : Verdict = verdict (packet_checks p) in
-        rw (answered, placed)
-        (refused_shows (result (place_of v)) v (captions_length p) (captions_length p) (shown_by p) (cleared s) wrong ∙ as_packet)
-
-    shown_accepted : eqb (packet_read p).answer.number 0 ≡ true
-        → result (packet_read p).place (packet_read p).answer (packet_read p).shown ≡ read s p room
-    unfolding packet_read
-    shown_accepted right =
-        ap (λ (v : Verdict). result (place_of v) (answer v (captions_length p)) (if_clear v (shown_by p) fresh_reader))
-        (packet_clear p right)
-        ∙ ap (λ (v : Verdict). result (place_of v) (answer v (captions_length p)) (if_clear v (shown_by p) (cleared s)))
-        (sym (packet_clear p right))
+    pub packet_refused : (r : Refused) → checked_read p ≡ Err r → result r.place (refused r.refusal) (cleared s) ≡ read s p room
+    unfolding checked_read
+    packet_refused r h =
+        refused_gives result (verdict (packet_checks p)) (checked_shown p) r (captions_length p) (shown_by p) (cleared s) h
         ∙ as_packet
 
-    pub packet_accepted : eqb (packet_read p).answer.number 0 ≡ true
-        → result 0 (done (captions_length p)) (shown_by p) ≡ read s p room
-    packet_accepted right =
-        ap (λ (r : PacketRead). result r.place r.answer r.shown) (all_shown p right) ∙ shown_accepted right
+    pub packet_accepted : verdict (packet_checks p) ≡ clear → result 0 (done (captions_length p)) (shown_by p) ≡ read s p room
+    packet_accepted h =
+        ap (λ (v : Verdict). result (place_of v) (answer v (captions_length p)) (if_clear v (shown_by p) (cleared s))) (sym h)
+        ∙ as_packet
 
 -- the buffer
 module _ (p : List ℕ) (buffer : List ℕ) where
@@ -92,15 +81,14 @@ module _ (p : List ℕ) (buffer : List ℕ) where
     unfolding buffer_after
     buffer_as_packet = simp (le-leb _ _ enough)
 
-    pub refused_buffer : eqb (packet_read p).answer.number 0 ≡ false → buffer ≡ buffer_after p buffer
-    unfolding packet_read
-    refused_buffer wrong =
-        refused_shows (λ a b. b) (verdict (packet_checks p)) (captions_length p) (captions_length p)
-        (over 0 (captions_of p) buffer) buffer wrong
+    pub refused_buffer : (r : Refused) → checked_read p ≡ Err r → buffer ≡ buffer_after p buffer
+    unfolding checked_read
+    refused_buffer r h =
+        refused_gives (λ place a b. b) (verdict (packet_checks p)) (checked_shown p) r (captions_length p)
+        (over 0 (captions_of p) buffer) buffer h
         ∙ buffer_as_packet
 
-    module _ (right : eqb (packet_read p).answer.number 0 ≡ true) where
-      pub accepted_buffer : over 0 (captions_of p) buffer ≡ buffer_after p buffer
-      accepted_buffer =
-          ap (λ (v : Verdict). if_clear v (over 0 (captions_of p) buffer) buffer) (sym (packet_clear p right))
-          ∙ buffer_as_packet
+    pub accepted_buffer : verdict (packet_checks p) ≡ clear → over 0 (captions_of p) buffer ≡ buffer_after p buffer
+    accepted_buffer h =
+        ap (λ (v : Verdict). if_clear v (over 0 (captions_of p) buffer) buffer) (sym h)
+        ∙ buffer_as_packet

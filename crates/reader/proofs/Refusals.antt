@@ -14,7 +14,7 @@ use lib.Seq.{take_at}
 use Rattle.basis.proofs.Verdicts.{done_clear, kept_from, refused_not_done, refused_shows}
 use Rattle.basis.specs.Bytes.{byte, over}
 use Rattle.basis.specs.Check.{Verdict, answer, broken, clear, if_clear, place_of, verdict}
-use Rattle.values.specs.Rate.{no_rate}
+use Rattle.std.specs.Prelude.{None}
 use Rattle.values.specs.Layout.{caption_room}
 use Rattle.values_time.specs.Time.{time_absent}
 use Rattle.read_closing.proofs.FooterFound.{checksum_kept}
@@ -102,7 +102,7 @@ module _ (s : CDPParser) (p buffer : List ℕ) where
         clears (leb caption_room (length buffer)) (verdict (packet_checks p)) (length buffer) (captions_length p)
         (shown_by p) s refusal other
 
-    pub refusal_clears_rate : given.parser.framerate ≡ no_rate
+    pub refusal_clears_rate : given.parser.framerate ≡ None
     refusal_clears_rate = ap (λ (r : CDPParser). r.framerate) refusal_clears
 
     pub refusal_clears_time_code : given.parser.time_code ≡ time_absent

@@ -1,6 +1,6 @@
 -- The reader: rule 1 before the others, and what a packet or a flush leaves.
 use Rattle.std.specs.Prelude.{cond, List, [], ◌∷◌, ℕ, leb, length}
-use Rattle.basis.specs.Answer.{BufferTooShort}
+use Rattle.basis.specs.declared.refusal.Refusal.TheVariants.{BufferTooShort}
 use Rattle.basis.specs.Bytes.{over}
 use Rattle.basis.specs.Check.{Check, check_at, verdict, answer, place_of, if_clear}
 use Rattle.basis.specs.declared.test.SizeTest.TheVariants.{CaptionRoom}

@@ -1,6 +1,5 @@
 -- What a new reader shows, and what an accepted packet does.
-use Rattle.std.specs.Prelude.{Bool, false, List, ℕ}
-use Rattle.values.specs.Rate.{no_rate}
+use Rattle.std.specs.Prelude.{Bool, false, List, ℕ, Option, None}
 use Rattle.values_time.specs.Time.{time_absent}
 use Rattle.service_list.specs.ServiceList.{list_absent}
 use Rattle.read_header.specs.Header.{rate_of, flags_in, sequence_in}
@@ -9,11 +8,11 @@ use Rattle.read_services.specs.Services.{services_of}
 use Rattle.read_packet.specs.Packet.{services_at, time_code_at}
 use Rattle.reader.specs.declared.parser.CDPParser.{CDPParser}
 use Rattle.service_list.specs.declared.list.MaybeServiceInfo.{MaybeServiceInfo}
-use Rattle.values.specs.declared.framerate.MaybeFramerate.{MaybeFramerate}
+use Rattle.values.specs.declared.framerate.Framerate.{Framerate}
 use Rattle.values_time.specs.declared.time.MaybeTimeCode.{MaybeTimeCode}
 
 -- rate, time code, sequence, service list and caption-active mark
-abbrev pub state : MaybeFramerate → MaybeTimeCode → ℕ → MaybeServiceInfo → Bool → CDPParser
+abbrev pub state : Option Framerate → MaybeTimeCode → ℕ → MaybeServiceInfo → Bool → CDPParser
 state rate time sequence services active =
     record { framerate = rate; time_code = time; sequence = sequence; service_info = services; caption_active = active }
 
@@ -23,7 +22,7 @@ with_services services s = state s.framerate s.time_code s.sequence services s.c
 
 -- a new reader: all absent, sequence 0, the caption-active mark off
 abbrev pub fresh_reader : CDPParser
-fresh_reader = state no_rate time_absent 0 list_absent false
+fresh_reader = state None time_absent 0 list_absent false
 
 -- what an accepted packet shows: each value absent where its section is, and the mark from flag 02 of byte 4
 unfoldable pub shown_by : List ℕ → CDPParser

@@ -15,7 +15,8 @@ use service_list::{MaybeServiceInfo, ServiceInfo};
 use values::{Flags, Packet};
 
 // The list of an accepted packet with these flags, whose services begin at this place; none where there is no flag for
-// them. One place makes both. Nothing can call it of a packet that breaks a rule.
+// them. One place makes both. Nothing can call it of a packet that breaks a rule; the section's own reader makes its list
+// in the same way, and that is private too.
 pub(crate) fn list(packet: &[u8], flags: Flags, at: u8) -> MaybeServiceInfo
     requires packet_clear { verdict (packet_checks packet.now) ≡ clear }
     requires flags_value { flags ≡ flags_in packet.now }
@@ -53,6 +54,7 @@ fn places(packet: &[u8], from: usize, count: usize) -> [ServiceEntry; 15]
     ensures { result ≡ Entries.filled (Entries.entries_of packet.now from count) }
 {
     let mut services = fillers();
+    // By number, since both places of an entry hang on it.
     for k in 0..count {
         let entry = entry(packet, from + Packet::SECTION_ENTRY_LEN * k);
         services[k] = entry;
@@ -71,7 +73,8 @@ fn entry(packet: &[u8], at: usize) -> ServiceEntry
     }
 }
 
-// What an entry's bytes 3 and 4 name.
+// What an entry's bytes 3 and 4 name, as in service_entry: there it is private, so that no public function makes an entry
+// of bytes that it does not test (nothing_from_refused).
 fn service_of(kind: u8, flags: u8) -> FieldOrService
     ensures { result ≡ Entry.service_of kind flags }
 {

@@ -7,16 +7,16 @@ ghost use Rattle.reader.specs.Reader as Reader;
 
 use crate::hand_out::hand_out;
 use crate::shown::shown;
-use basis::Answer;
+use basis::{Answer, Refusal};
 use read_packet::Checked;
 use service_list::MaybeServiceInfo;
-use values::{MaybeFramerate, Packet};
+use values::{Framerate, Packet};
 use values_time::MaybeTimeCode;
 
 // What the last accepted packet had. After a refusal only its service list is left.
 #[derive(Clone, Copy)]
 pub struct CDPParser {
-    pub framerate: MaybeFramerate,
+    pub framerate: Option<Framerate>,
     pub time_code: MaybeTimeCode,
     pub sequence: u16,
     // Whether captioning was on air. In front of the list it takes up no room: bytes are left over there.
@@ -24,7 +24,8 @@ pub struct CDPParser {
     pub service_info: MaybeServiceInfo,
 }
 
-// What reading gives: the answer, the place of the byte that is refused, and the reader as it is from then on.
+// What reading gives: the answer, the place of the byte that is refused, and the reader as it is from then on, after a
+// refusal too: so it is no Result.
 #[derive(Clone, Copy)]
 pub struct CDPParserRead {
     pub place: usize,
@@ -68,7 +69,7 @@ impl CDPParser {
     }
 
     // Reads a packet. An accepted one replaces all that is shown, and its captions are put into the lent buffer.
-    #[tactic(auto, using(crate::proofs::ReaderReads::no_room, crate::proofs::ReaderReads::no_room_buffer))]
+    #[tactic(auto, using(crate::proofs::ReaderReads::no_room, crate::proofs::ReaderReads::no_room_buffer, crate::proofs::ReaderReads::packet_refused, crate::proofs::ReaderReads::refused_buffer))]
     pub fn parse(self, packet: &[u8], captions: &mut [u8]) -> CDPParserRead
         ensures value { result ≡ Reader.read self packet.now (length captions.old) }
         ensures captions_after { captions.new ≡ Reader.buffer_after packet.now captions.old }
@@ -76,25 +77,25 @@ impl CDPParser {
         let room = captions.len();
         if room < Self::CAPTION_ROOM {
             return CDPParserRead {
-                answer: Answer::buffer_too_short(Self::CAPTION_ROOM, room),
+                answer: Answer::from(Refusal::BufferTooShort(Self::CAPTION_ROOM, room)),
                 place: 0,
                 parser: self,
             };
         }
-        let read = Checked::parse(packet);
-        let answer = read.answer;
-        if !answer.is_done() {
-            return CDPParserRead {
-                answer,
-                place: read.place,
+        match Checked::parse(packet) {
+            Ok(read) => {
+                hand_out(packet, read.flags.cc_data, read.captions_at, captions);
+                CDPParserRead {
+                    answer: Answer::done(read.captions),
+                    place: 0,
+                    parser: shown(read, packet),
+                }
+            }
+            Err(refused) => CDPParserRead {
+                answer: Answer::from(refused.refusal),
+                place: refused.place,
                 parser: self.cleared(),
-            };
-        }
-        hand_out(packet, read.flags.cc_data, read.captions_at, captions);
-        CDPParserRead {
-            answer,
-            place: 0,
-            parser: shown(read, packet),
+            },
         }
     }
 
@@ -118,7 +119,7 @@ impl CDPParser {
         ensures { result ≡ with_services service_info fresh_reader }
     {
         Self {
-            framerate: MaybeFramerate::ABSENT,
+            framerate: None,
             time_code: MaybeTimeCode::ABSENT,
             sequence: 0,
             service_info,

@@ -1,3 +1,2 @@
-pub mod Filling
-pub mod Runs
+pub mod Folds
 pub mod Swept

@@ -27,11 +27,7 @@ pub fn two_fed(digest: u64, n: u64) -> u64
 pub fn all_fed(first: u64, bytes: &[u8]) -> u64
     ensures { result ≡ Digest.all_fed first bytes.now }
 {
-    let mut digest = first;
-    for k in 0..bytes.len() {
-        digest = feed(digest, bytes[k]);
-    }
-    digest
+    bytes.iter().fold(first, |digest, byte| feed(digest, *byte))
 }
 
 // A list's flags and its count, then so many of its places.
@@ -50,15 +46,8 @@ pub fn list_fed(digest: u64, list: ServiceInfo, places: usize) -> u64
 fn entries_fed(first: u64, services: [ServiceEntry; 15], count: usize) -> u64
     ensures { result ≡ Digest.entries_fed first (take count services) }
 {
-    let mut digest = first;
-    for k in 0..15 {
-        if count <= k {
-            return digest;
-        }
-        let entry = services[k];
-        digest = entry_fed(digest, entry);
-    }
-    digest
+    let counted = services.iter().take(count);
+    counted.fold(first, |digest, entry| entry_fed(digest, *entry))
 }
 
 // The language, then the service.

@@ -7,7 +7,5 @@ const UNTOUCHED: u8 = 0xA5;
 pub fn fill(lent: &mut [u8])
     ensures { lent.new ≡ replicate (length lent.old) 0xA5 }
 {
-    for k in 0..lent.len() {
-        lent[k] = UNTOUCHED;
-    }
+    lent.fill(UNTOUCHED);
 }

@@ -9,29 +9,16 @@ use native.Mathlib.Numerals.{add-one}
 use native.Mathlib.Omega.{arith}
 use borrow.Author.Tests.{eq-eqb, ne_eqb, eqb-true, le-leb, lt-leb}
 use lib.Dec.{eqb}
-use lib.ListN.{drop, length, set, replicate, length-append}
+use lib.ListN.{drop, length, length-append, replicate, set}
 use lib.Seq.{append_snoc, set-append_seam}
-use Rattle.basis.proofs.Verdicts.{
-  and_then,
-  append_first,
-  append_second,
-  done_clear,
-  kept_at_lem,
-  kept_from,
-  moved_clear,
-  moved_kept,
-  moved_outcome,
-  moved_refused,
-  moved_verdict,
-  refused_shows,
-  refused_stays,
-  verdict_append,
-  verdict_moved,
-}
-use Rattle.basis.specs.Answer.{LengthMismatch, WrongMagic, InvalidFixedBits, ServiceNumberMismatch, done, refused}
+use Rattle.std.specs.Prelude.{Ok, Err}
+use Rattle.basis.proofs.Readings.{given_clear, given_value, refused_alone, refused_first, refused_moved}
+use Rattle.basis.proofs.Verdicts.{and_then, append_first, append_second, kept_at_lem, kept_from, moved_clear, moved_kept, moved_verdict, verdict_append, verdict_moved}
+use Rattle.basis.specs.declared.refusal.Refusal.TheVariants.{LengthMismatch, WrongMagic, InvalidFixedBits, ServiceNumberMismatch}
+use Rattle.basis.specs.declared.refusal.Refused.{Refused}
 use Rattle.basis.specs.Bytes.{byte}
-use Rattle.basis.specs.Check.{Verdict, clear, moved, verdict, place_of, if_clear}
-use Rattle.basis.specs.Code.{outcome, outcome_at}
+use Rattle.basis.specs.Check.{Verdict, clear, moved, read_as, refused_at, verdict}
+use Rattle.basis.specs.Code.{outcome}
 use Rattle.values.specs.Layout.{services_id, section_length, section_entry_size}
 use Rattle.service_entry.specs.Entry.{entry_checks, entry_of, entry_read}
 use Rattle.service_entries.specs.Entries.{
@@ -46,11 +33,9 @@ use Rattle.service_entries.specs.Entries.{
   section_checks,
   six_behind,
 }
-use Rattle.service_entries.specs.Code.{entries_read, refused_entries, section_outcome, Framed, entry_outcome}
+use Rattle.service_entries.specs.Code.{entries_read, section_outcome, Framed, entry_outcome}
 use Rattle.service_entry.specs.Service.{filler, number_of}
 use Rattle.service_entry.specs.declared.entry.ServiceEntry.{ServiceEntry}
-use Rattle.basis.specs.declared.answer.Answer.{Answer}
-use Rattle.service_entries.specs.declared.entries.EntriesRead.{EntriesRead}
 
 implied : (a b : Bool) → (a ≡ true → b ≡ true) → (not a || b) ≡ true
 implied true b h = h refl
@@ -65,18 +50,20 @@ decide header a b =
     let q : header / 64 ≡ header / 32 / 2 = omega arith in
     upper (header / 32) (rw (← q) a) b
 
--- what reading the entries gives
-abbrev shown_entries : ℕ → Answer → List ServiceEntry → EntriesRead
-shown_entries place a services = record { answer = a; place = place; services = services }
+-- a refusal of a part that stands further on, whatever stands behind the part
+refused_behind_moved : {A B : Type 0} (from : ℕ) (v w : Verdict) (value : A) (other : B) (r : Refused) → read_as v value ≡ Err r
+    → Err (refused_at r.refusal (from + r.place)) ≡ read_as (and_then (moved_verdict from v) w) other
+refused_behind_moved from v w value other r h =
+    refused_first _ (moved_verdict from v) w other other _ (sym (refused_moved from v value other r h))
 
 -- S5 to S8
 module _ (d : List ℕ) (at : ℕ) where
-  pub header_no_80 : (byte d at / 128 % 2 ≡ 1 → ⊥) → outcome_at (refused InvalidFixedBits) 0 ≡ entry_outcome d at
+  pub header_no_80 : (byte d at / 128 % 2 ≡ 1 → ⊥) → Err (refused_at InvalidFixedBits 0) ≡ entry_outcome d at
   unfolding entry_outcome
   header_no_80 a = simp (ne_eqb _ _ a)
 
   module _ (has_80 : byte d at / 128 % 2 ≡ 1) where
-    pub header_no_20 : byte d at / 32 % 4 ≡ 2 → outcome_at (refused InvalidFixedBits) 0 ≡ entry_outcome d at
+    pub header_no_20 : byte d at / 32 % 4 ≡ 2 → Err (refused_at InvalidFixedBits 0) ≡ entry_outcome d at
     unfolding entry_outcome
     header_no_20 a =
         let with_40 : byte d at / 64 % 2 ≡ 1 = omega arith in
@@ -99,24 +86,21 @@ module _ (d : List ℕ) (at : ℕ) where
           ∙ ap (λ (v : Verdict). and_then v (verdict (number_check d at ∷ []))) (verdict_moved 1 (entry_checks (six_behind d at)))
 
       -- an entry that is refused by its own rules: its place is counted from the header byte
-      pub entry_refused : eqb (entry_read (six_behind d at)).answer.number 0 ≡ false
-          → outcome_at (entry_read (six_behind d at)).answer (1 + (entry_read (six_behind d at)).place) ≡ entry_outcome d at
+      pub entry_refused : (r : Refused) → entry_read (six_behind d at) ≡ Err r
+          → Err (refused_at r.refusal (1 + r.place)) ≡ entry_outcome d at
       unfolding entry_read entry_outcome
-      entry_refused h =
+      entry_refused r h =
           let own : Verdict = verdict (entry_checks (six_behind d at)) in
-          moved_outcome 1 own h
-          ∙ ap outcome
-          (sym (refused_stays (moved_verdict 1 own) (verdict (number_check d at ∷ [])) 0 (moved_refused 1 own h))
-          ∙ sym as_parts)
+          refused_behind_moved 1 own (verdict (number_check d at ∷ [])) (entry_of (six_behind d at)) tt r h ∙ ap outcome (sym as_parts)
 
-      module _ (read : eqb (entry_read (six_behind d at)).answer.number 0 ≡ true) where
+      module _ (e : ServiceEntry) (read : entry_read (six_behind d at) ≡ Ok e) where
         own_clear : verdict (entry_checks (six_behind d at)) ≡ clear
         unfolding entry_read
-        own_clear = done_clear (verdict (entry_checks (six_behind d at))) 0 read
+        own_clear = given_clear _ (verdict (entry_checks (six_behind d at))) (entry_of (six_behind d at)) e read
 
-        whole : (entry_read (six_behind d at)).entry ≡ entry_of (six_behind d at)
+        whole : e ≡ entry_of (six_behind d at)
         unfolding entry_read
-        whole = ap (λ (v : Verdict). if_clear v (entry_of (six_behind d at)) filler) own_clear
+        whole = given_value _ (verdict (entry_checks (six_behind d at))) (entry_of (six_behind d at)) e read
 
         last_check : outcome (verdict (number_check d at ∷ [])) ≡ entry_outcome d at
         unfolding entry_outcome
@@ -124,14 +108,12 @@ module _ (d : List ℕ) (at : ℕ) where
             ap (λ (v : Verdict). outcome (and_then (moved_verdict 1 v) (verdict (number_check d at ∷ [])))) (sym own_clear)
             ∙ ap outcome (sym as_parts)
 
-        pub other_number : (named_by (byte d at) ≡ number_of (entry_read (six_behind d at)).entry.service → ⊥)
-            → outcome_at (refused ServiceNumberMismatch) 0 ≡ entry_outcome d at
+        pub other_number : (named_by (byte d at) ≡ number_of e.service → ⊥) → Err (refused_at ServiceNumberMismatch 0) ≡ entry_outcome d at
         other_number h =
             let other : named_by (byte d at) ≡ number_of (entry_of (six_behind d at)).service → ⊥ = rw whole at h in
             rw (← last_check) (simp (ne_eqb _ _ other))
 
-        pub same_number : named_by (byte d at) ≡ number_of (entry_read (six_behind d at)).entry.service
-            → outcome_at (done 0) 0 ≡ entry_outcome d at
+        pub same_number : named_by (byte d at) ≡ number_of e.service → Ok tt ≡ entry_outcome d at
         same_number h =
             let same : named_by (byte d at) ≡ number_of (entry_of (six_behind d at)).service = rw whole at h in
             rw (← last_check) (simp (eq-eqb _ _ same))
@@ -219,33 +201,33 @@ module _ (d : List ℕ) (k count : ℕ) where
       let none : count - k ≡ 0 = omega arith in
       rw none
 
-  pub left_goes_on : k < count → eqb (entry_outcome d (section_length k)).answer.number 0 ≡ true
+  pub left_goes_on : (u : Unit) → k < count → entry_outcome d (section_length k) ≡ Ok u
       → left d k count ≡ left d (k + 1) count
   unfolding entry_outcome
-  left_goes_on h r =
+  left_goes_on u h r =
       left_step h
       ∙ ap (λ (v : Verdict). and_then v (left d (k + 1) count))
       (moved_clear (section_length k) (verdict (checks_at d (section_length k)))
-      (done_clear (verdict (checks_at d (section_length k))) 0 r))
+      (given_clear _ (verdict (checks_at d (section_length k))) tt u r))
 
 -- S1 to S4, where one of them is the first that fails
 module _ (d : List ℕ) where
-  pub too_short : length d < 2 → outcome_at (refused (LengthMismatch 2 (length d))) (length d) ≡ section_outcome d
+  pub too_short : length d < 2 → Err (refused_at (LengthMismatch 2 (length d)) (length d)) ≡ section_outcome d
   unfolding section_outcome section_checks
   too_short h = simp (lt-leb _ _ h)
 
-  pub other_id : 2 ≤ length d → (byte d 0 ≡ services_id → ⊥) → outcome_at (refused WrongMagic) 0 ≡ section_outcome d
+  pub other_id : 2 ≤ length d → (byte d 0 ≡ services_id → ⊥) → Err (refused_at WrongMagic 0) ≡ section_outcome d
   unfolding section_outcome section_checks
   other_id h a = simp (le-leb _ _ h, ne_eqb _ _ a)
 
   pub no_80 : 2 ≤ length d → byte d 0 ≡ services_id → (byte d 1 / 128 % 2 ≡ 1 → ⊥)
-      → outcome_at (refused InvalidFixedBits) 1 ≡ section_outcome d
+      → Err (refused_at InvalidFixedBits 1) ≡ section_outcome d
   unfolding section_outcome section_checks
   no_80 h a b = simp (le-leb _ _ h, eq-eqb _ _ a, ne_eqb _ _ b)
 
   pub other_size : 2 ≤ length d → byte d 0 ≡ services_id → byte d 1 / 128 % 2 ≡ 1
       → (length d ≡ section_length (byte d 1 % 16) → ⊥)
-      → outcome_at (refused (LengthMismatch (section_length (byte d 1 % 16)) (length d))) (length d) ≡ section_outcome d
+      → Err (refused_at (LengthMismatch (section_length (byte d 1 % 16)) (length d)) (length d)) ≡ section_outcome d
   unfolding section_outcome section_checks
   other_size h a b s =
       let n : byte d 1 / 1 % 16 ≡ byte d 1 % 16 = omega arith in
@@ -265,44 +247,41 @@ module _ (d : List ℕ) (header : ℕ) (framed : Framed d header) where
       (left_first d 0 (header % 16))
 
   -- the first that is refused: its place is counted from the section's first byte
-  pub section_refused : (k : ℕ) → k < header % 16 → left d 0 (header % 16) ≡ left d k (header % 16)
-      → eqb (entry_outcome d (section_length k)).answer.number 0 ≡ false
-      → outcome_at (entry_outcome d (section_length k)).answer (section_length k + (entry_outcome d (section_length k)).place)
-      ≡ section_outcome d
+  pub section_refused : (k : ℕ) (r : Refused) → k < header % 16 → left d 0 (header % 16) ≡ left d k (header % 16)
+      → entry_outcome d (section_length k) ≡ Err r
+      → Err (refused_at r.refusal (section_length k + r.place)) ≡ section_outcome d
   unfolding section_outcome entry_outcome
-  section_refused k h so_far wrong =
+  section_refused k r h so_far wrong =
       let at : ℕ = section_length k in
-      let own : Verdict = verdict (checks_at d at) in
-      moved_outcome at own wrong
-      ∙ ap outcome
-      (sym (refused_stays (moved_verdict at own) (left d (k + 1) (header % 16)) 0 (moved_refused at own wrong))
-      ∙ sym (frame_kept ∙ so_far ∙ left_step d k (header % 16) h))
+      refused_behind_moved at (verdict (checks_at d at)) (left d (k + 1) (header % 16)) tt tt r wrong
+      ∙ ap outcome (sym (frame_kept ∙ so_far ∙ left_step d k (header % 16) h))
 
   pub section_whole : (k : ℕ) → k ≡ header % 16 → left d 0 (header % 16) ≡ left d k (header % 16)
-      → outcome_at (done 0) 0 ≡ section_outcome d
+      → Ok tt ≡ section_outcome d
   unfolding section_outcome
   section_whole k h so_far =
       ap outcome (sym (frame_kept ∙ so_far ∙ left_none d k (header % 16) (omega arith)))
 
--- reading shows what a section holds where the tests are clear, and fillers where they are not
+-- reading gives what a section holds where the tests are clear, and hands on what they refuse
 module _ (d : List ℕ) where
-  pub entries_refused : eqb (section_outcome d).answer.number 0 ≡ false
-      → refused_entries (section_outcome d).answer (section_outcome d).place ≡ entries_read d
+  pub entries_refused : (r : Refused) → section_outcome d ≡ Err r → Err r ≡ entries_read d
   unfolding section_outcome entries_read
-  entries_refused h =
-      refused_shows (shown_entries (place_of (verdict (section_checks d)))) (verdict (section_checks d)) 0 0
-      (filled (entries_of d 2 (count_of d))) fillers h
+  entries_refused r h = refused_alone _ (verdict (section_checks d)) tt (filled (entries_of d 2 (count_of d))) r h
 
-  pub section_clear : eqb (section_outcome d).answer.number 0 ≡ true → verdict (section_checks d) ≡ clear
+  pub section_clear : (u : Unit) → section_outcome d ≡ Ok u → verdict (section_checks d) ≡ clear
   unfolding section_outcome
-  section_clear h = done_clear (verdict (section_checks d)) 0 h
+  section_clear u h = given_clear _ (verdict (section_checks d)) tt u h
 
-  pub entries_read_lem : eqb (section_outcome d).answer.number 0 ≡ true
-      → shown_entries 0 (section_outcome d).answer (filled (entries_of d 2 (count_of d))) ≡ entries_read d
-  unfolding section_outcome entries_read
-  entries_read_lem h = rw (done_clear (verdict (section_checks d)) 0 h)
+  pub entries_read_lem : (u : Unit) → section_outcome d ≡ Ok u → Ok (filled (entries_of d 2 (count_of d))) ≡ entries_read d
+  unfolding entries_read
+  entries_read_lem u h = rw (section_clear u h)
 
--- of entries that are right, each is right by its own rules, so that its own reader gives what its bytes hold
+-- what an entry's own reader gives is what its bytes hold
+pub entry_is : (six : List ℕ) (e : ServiceEntry) → entry_read six ≡ Ok e → e ≡ entry_of six
+unfolding entry_read
+entry_is six e h = given_value _ (verdict (entry_checks six)) (entry_of six) e h
+
+-- of entries that are right, each is right by its own rules, so that its own reader gives it
 module _ (d : List ℕ) where
   at_kept : (from count k : ℕ) → k < count → verdict (entry_list_checks d from count) ≡ clear
       → verdict (checks_at d (from + section_entry_size * k)) ≡ clear
@@ -318,8 +297,8 @@ module _ (d : List ℕ) where
       (at_kept (from + section_entry_size) n k (omega arith)
       (append_second (moved from (checks_at d from)) (entry_list_checks d (from + section_entry_size) n) v))
 
-  pub entry_held : (from count k : ℕ) → verdict (entry_list_checks d from count) ≡ clear → k < count
-      → (entry_read (six_behind d (from + section_entry_size * k))).entry ≡ entry_of (six_behind d (from + section_entry_size * k))
+  entry_held : (from count k : ℕ) → verdict (entry_list_checks d from count) ≡ clear → k < count
+      → entry_read (six_behind d (from + section_entry_size * k)) ≡ Ok (entry_of (six_behind d (from + section_entry_size * k)))
   unfolding entry_read
   entry_held from count k v h =
       let at : ℕ = from + section_entry_size * k in
@@ -337,6 +316,7 @@ module _ (d : List ℕ) (right : verdict (section_checks d) ≡ clear) where
       let said : length d ≡ section_length (count_of d) = eqb-true _ _ (kept_at_lem 3 (section_checks d) right) in
       omega (arith, said)
 
-  pub entries_right : verdict (entry_list_checks d 2 (count_of d)) ≡ clear
+  pub entry_right : (k : ℕ) → k < count_of d
+      → entry_read (six_behind d (2 + section_entry_size * k)) ≡ Ok (entry_of (six_behind d (2 + section_entry_size * k)))
   unfolding section_checks
-  entries_right = kept_from 4 (section_checks d) right
+  entry_right k h = entry_held d 2 (count_of d) k (kept_from 4 (section_checks d) right) h

@@ -2,14 +2,17 @@
 -- Assumes nothing.
 use mathlib.Core.Bool.{Bool, true, false, ◌&&◌, true≢false}
 use mathlib.Core.List.{List}
-use mathlib.Core.Path.{◌≡◌, ◌∙◌, refl, sym}
+use mathlib.Core.Path.{◌≡◌, ◌∙◌, refl, sym, ap}
+use Rattle.std.specs.Prelude.{Err}
 use Prim.Native.Nat.{ℕ, zero, suc, ◌+◌, ◌*◌, ◌≤◌}
 use native.Mathlib.Omega.{arith}
 use borrow.Author.Tests.{eq-eqb, eqb-true, le-leb, leb-true, lt-ltb}
 use lib.Dec.{eqb}
 use lib.ListN.{length}
 use Rattle.basis.proofs.Holds.{Holds, Inside, So, Within, also, both, fixed, none, part_inside, place_most, placed_in}
-use Rattle.basis.specs.Check.{moved, verdict}
+use Rattle.basis.proofs.Readings.{place_read}
+use Rattle.basis.specs.Check.{Verdict, moved, read_place, verdict}
+use Rattle.basis.specs.declared.refusal.Refused.{Refused}
 use Rattle.values.specs.Layout.{section_entry_size, section_length}
 use Rattle.service_entry.proofs.EntryReads.{entry_within}
 use Rattle.service_entry.specs.Entry.{entry_checks}
@@ -24,9 +27,11 @@ at_within d at =
     (both (moved 1 (entry_checks (six_behind d at))) _
     (part_inside false 1 6 7 (entry_checks (six_behind d at)) (omega arith) (entry_within (six_behind d at))) (fixed refl none)))
 
-pub at_near : (d : List ℕ) (at : ℕ) → (entry_outcome d at).place ≤ 7
+pub at_near : (d : List ℕ) (at : ℕ) (r : Refused) → entry_outcome d at ≡ Err r → r.place ≤ 7
 unfolding entry_outcome
-at_near d at = place_most false 7 (verdict (checks_at d at)) (at_within d at).it
+at_near d at r h =
+    let v : Verdict = verdict (checks_at d at) in
+    omega (arith, ap read_place h, place_read {A = Unit} v tt, place_most false 7 v (at_within d at).it)
 
 entries_placed : (may_be_one : Bool) (d : List ℕ) (at n : ℕ) → at + section_entry_size * n ≤ length d
     → Holds (So (placed_in may_be_one (length d))) (entry_list_checks d at n)
@@ -58,9 +63,11 @@ section_placed may_be_one d right =
 pub section_inside : (d : List ℕ) → Inside (length d) (section_checks d)
 section_inside d = section_placed true d (λ s. absurd (true≢false s))
 
-pub section_near : (d : List ℕ) → (section_outcome d).place ≤ length d
+pub section_near : (d : List ℕ) (r : Refused) → section_outcome d ≡ Err r → r.place ≤ length d
 unfolding section_outcome
-section_near d = place_most true (length d) (verdict (section_checks d)) (section_inside d).it
+section_near d r h =
+    let v : Verdict = verdict (section_checks d) in
+    omega (arith, ap read_place h, place_read {A = Unit} v tt, place_most true (length d) v (section_inside d).it)
 
 -- one that has the size that its count says, as in a packet: it is not answered 1
 pub section_within : (d : List ℕ) → length d ≡ section_length (count_of d) → Within (length d) (section_checks d)

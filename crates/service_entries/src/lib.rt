@@ -5,5 +5,5 @@
 mod entries;
 mod section_tests;
 
-pub use entries::{EntriesRead, fillers, read_entries};
+pub use entries::{fillers, read_entries};
 pub use section_tests::test_section;

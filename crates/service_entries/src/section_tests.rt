@@ -5,79 +5,77 @@ ghost use Rattle.service_entries.specs.Entries as Entries;
 ghost use Rattle.service_entries.specs.Code as Code;
 ghost use Rattle.service_entry.specs.Service as Service;
 
-use basis::{Answer, Outcome};
+use basis::{Refusal, Refused};
 use service_entry::{FieldOrService, ServiceEntry};
 use values::Packet;
 
 // Tests a section that stands alone, and makes nothing of it. Places are counted from the section's first byte.
-pub fn test_section(data: &[u8]) -> Outcome
+#[tactic(auto, using(crate::proofs::SectionEntries::too_short, crate::proofs::SectionEntries::other_id, crate::proofs::SectionEntries::no_80, crate::proofs::SectionEntries::other_size))]
+pub fn test_section(data: &[u8]) -> Result<(), Refused>
     ensures { result ≡ Code.section_outcome «data».now }
 {
     let size = data.len();
     if size < Packet::SECTION_HEAD_LEN {
-        return Outcome::at(
-            Answer::length_mismatch(Packet::SECTION_HEAD_LEN, size),
+        return Err(Refused::at(
+            Refusal::LengthMismatch(Packet::SECTION_HEAD_LEN, size),
             size,
-        );
+        ));
     }
     if data[0] != Packet::SVC_INFO_ID {
-        return Outcome::at(Answer::WRONG_MAGIC, 0);
+        return Err(Refused::at(Refusal::WrongMagic, 0));
     }
     let header = data[1];
     // Bit 80 is set.
     if header / 128 % 2 != 1 {
-        return Outcome::at(Answer::INVALID_FIXED_BITS, 1);
+        return Err(Refused::at(Refusal::InvalidFixedBits, 1));
     }
     let expected = Packet::SECTION_HEAD_LEN + Packet::SECTION_ENTRY_LEN * (header % 16) as usize;
     if size != expected {
-        return Outcome::at(Answer::length_mismatch(expected, size), size);
+        return Err(Refused::at(Refusal::LengthMismatch(expected, size), size));
     }
     test_entries(data, header)
 }
 
 // Tests the entries behind the section's two bytes, first to last.
-#[tactic(auto, using(crate::proofs::SectionPlaces::at_near))]
-fn test_entries(data: &[u8], header: u8) -> Outcome
+#[tactic(auto, using(crate::proofs::SectionPlaces::at_near, crate::proofs::SectionEntries::section_refused, crate::proofs::SectionEntries::left_goes_on, crate::proofs::SectionEntries::section_whole))]
+fn test_entries(data: &[u8], header: u8) -> Result<(), Refused>
     requires { Code.Framed «data».now header }
     ensures { result ≡ Code.section_outcome «data».now }
 {
     let count = (header % 16) as usize;
+    // By number, since a refusal's place hangs on it.
     for k in 0..count {
         let at = Packet::SECTION_HEAD_LEN + Packet::SECTION_ENTRY_LEN * k;
-        let tested = test_at(data, at);
-        let answer = tested.answer;
-        if !answer.is_done() {
-            return Outcome::at(answer, at + tested.place);
+        if let Err(refused) = test_at(data, at) {
+            return Err(Refused::at(refused.refusal, at + refused.place));
         }
     }
-    Outcome::done()
+    Ok(())
 }
 
 // Tests the header byte at a place and the entry behind it. Its places are counted from the header byte.
-fn test_at(data: &[u8], at: usize) -> Outcome
+#[tactic(auto, using(service_entry::proofs::EntryReads::entry_near, crate::proofs::SectionEntries::header_no_80, crate::proofs::SectionEntries::header_no_20, crate::proofs::SectionEntries::entry_refused, crate::proofs::SectionEntries::other_number, crate::proofs::SectionEntries::same_number))]
+fn test_at(data: &[u8], at: usize) -> Result<(), Refused>
     requires { at + section_entry_size ≤ length «data».now }
     ensures { result ≡ Code.entry_outcome «data».now at }
 {
     let header = data[at];
     // Bit 80 is set.
     if header / 128 % 2 != 1 {
-        return Outcome::at(Answer::INVALID_FIXED_BITS, 0);
+        return Err(Refused::at(Refusal::InvalidFixedBits, 0));
     }
     // Bit 40 is clear, or 20 is set too.
     if header / 32 % 4 == 2 {
-        return Outcome::at(Answer::INVALID_FIXED_BITS, 0);
+        return Err(Refused::at(Refusal::InvalidFixedBits, 0));
     }
-    let read = ServiceEntry::parse(six_behind(data, at));
-    let answer = read.answer;
-    if !answer.is_done() {
-        return Outcome::at(answer, 1 + read.place);
+    let entry = match ServiceEntry::parse(six_behind(data, at)) {
+        Ok(entry) => entry,
+        Err(refused) => return Err(Refused::at(refused.refusal, 1 + refused.place)),
+    };
+    if named_by(header) != number_of(entry.service) {
+        return Err(Refused::at(Refusal::ServiceNumberMismatch, 0));
     }
-    let entry = read.entry;
-    let service = entry.service;
-    if named_by(header) != number_of(service) {
-        return Outcome::at(Answer::SERVICE_NUMBER_MISMATCH, 0);
-    }
-    Outcome::done()
+    Ok(())
 }
 
 // The six bytes behind a header byte.

@@ -8,10 +8,11 @@ use native.Mathlib.Nat.{add-zero, sub-zero, not-suc-le-zero, le_of_suc-le-suc}
 use native.Mathlib.Numerals.{add-one}
 use native.Mathlib.Omega.{arith}
 use borrow.Author.Tests.{le-leb, lt-leb}
-use lib.ListN.{length, get_or}
+use lib.ListN.{length, get_or, take}
+use lib.Seq.{get_or-take, length-take-le}
 use Rattle.basis.proofs.Bools.{and_left, and_right}
 use Rattle.basis.proofs.Puts.{fits_clear, over_nil, over_over, short_refused}
-use Rattle.basis.specs.Answer.{NotWritable}
+use Rattle.basis.specs.declared.refusal.Refusal.TheVariants.{NotWritable}
 use Rattle.basis.specs.Bytes.{over}
 use Rattle.basis.specs.Check.{WriteVerdict, clear, broken, unplaced, verdict}
 use Rattle.service_entry.specs.Code.{all_writable, array_places, entries_left, places_writable}
@@ -65,6 +66,21 @@ module _ (k count : ℕ) (services : List ServiceEntry) where
   ahead_ends h =
       let n : count - k ≡ 0 = omega arith in
       rw n
+
+-- the same of an entry of the first so many places, as a loop over these meets it
+module _ (k count : ℕ) (services : List ServiceEntry) (d : ServiceEntry) (held : count ≤ length services)
+    (here : k < length (take count services)) where
+  in_count : k < count
+  in_count = omega (arith, length-take-le count services held)
+
+  pub taken_goes_on : writable (get_or (take count services) k d).service ≡ true
+      → ahead k count services ≡ ahead (k + 1) count services
+  taken_goes_on w =
+      ahead_goes_on k count services d in_count (omega (arith, in_count)) (rw (get_or-take count services k d in_count) at w)
+
+  pub taken_stops : writable (get_or (take count services) k d).service ≡ false → ahead k count services ≡ false
+  taken_stops w =
+      ahead_stops k count services d in_count (omega (arith, in_count)) (rw (get_or-take count services k d in_count) at w)
 
 -- the entries' checks come to one test
 pub entries_verdict : (es : List ServiceEntry)

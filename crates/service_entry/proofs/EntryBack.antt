@@ -8,9 +8,9 @@ use native.Mathlib.Omega.{arith}
 use lib.Dec.{eqb, leb}
 use lib.ListN.{length, take}
 use borrow.Author.Tests.{eq-eqb, ne_eqb, leb-true}
+use Rattle.std.specs.Prelude.{Ok}
 use Rattle.basis.proofs.Bools.{and_left, and_right}
 use Rattle.basis.proofs.Verdicts.{kept_at_lem}
-use Rattle.basis.specs.Answer.{done}
 use Rattle.basis.specs.Bytes.{byte}
 use Rattle.basis.specs.Check.{verdict, clear}
 use Rattle.basis.specs.Mask.{Mask, flag, under, all_set, x80, x40, x3f}
@@ -109,7 +109,7 @@ entry_of_back e three h = rw (language_back e.language three, service_back e.ser
 -- An entry with a language of three bytes that can be written, a field or a digital number of 1 to 63: reading the six bytes
 -- that writing makes of it is done, and gives the same entry. Both fields are read back as they were.
 pub entry_back : (e : ServiceEntry) → length e.language ≡ 3 → writable e.service ≡ true
-    → entry_read (entry_bytes e) ≡ record { answer = done 0; place = 0; entry = e }
+    → entry_read (entry_bytes e) ≡ Ok e
 unfolding entry_read
 entry_back e three h = rw (entry_clear e.language e.service h, entry_of_back e three h)
 
@@ -117,7 +117,7 @@ entry_back e three h = rw (entry_clear e.language e.service h, entry_of_back e t
 pub entry_written_back : (e : ServiceEntry) (buffer : List ℕ) → length e.language ≡ 3
     → eqb (entry_written e buffer).answer.number 0 ≡ true
     → entry_read (take (entry_written e buffer).answer.first (entry_written e buffer).buffer)
-    ≡ record { answer = done 0; place = 0; entry = e }
+    ≡ Ok e
 unfolding entry_written
 entry_written_back e buffer three h =
     let both = room_done (entry_check e ∷ []) 6 (entry_bytes e) buffer h in

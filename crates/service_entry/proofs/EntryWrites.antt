@@ -8,7 +8,8 @@ use native.Mathlib.Omega.{arith}
 use lib.ListN.{length, set}
 use Rattle.basis.proofs.Puts.{over_over, stored_over}
 use Rattle.basis.proofs.Writes.{Leaves, all_fits, no_room}
-use Rattle.basis.specs.Answer.{BufferTooShort, NotWritable, done, refused}
+use Rattle.basis.specs.Answer.{done, refused}
+use Rattle.basis.specs.declared.refusal.Refusal.TheVariants.{BufferTooShort, NotWritable}
 use Rattle.basis.specs.Bytes.{over}
 use Rattle.service_entry.specs.EntryWriting.{
   writable,

@@ -1,12 +1,9 @@
--- Follows the code and not the rules: entries tested in one loop and put in another, and what stands beside a refusal.
+-- Follows the code and not the rules: entries tested in one loop and put in another.
 use Rattle.std.specs.Prelude.{Bool, true, cond, ◌&&◌, List, [], ◌∷◌, ℕ, leb}
 use Rattle.basis.specs.Code.{put}
 use Rattle.service_entry.specs.EntriesWriting.{entry_list_bytes, places_from}
 use Rattle.service_entry.specs.EntryWriting.{writable}
-use Rattle.service_entry.specs.Service.{filler}
 use Rattle.service_entry.specs.declared.entry.ServiceEntry.{ServiceEntry}
-use Rattle.service_entry.specs.declared.entry.ServiceEntryRead.{ServiceEntryRead}
-use Rattle.basis.specs.declared.answer.Answer.{Answer}
 
 -- every one of them can be written
 unfoldable pub all_writable : List ServiceEntry → Bool
@@ -25,7 +22,3 @@ places_writable services count = leb count array_places && all_writable (places_
 unfoldable pub entries_left : List ServiceEntry → ℕ → ℕ → List ℕ → List ℕ
 entries_left services count at buffer =
     cond (places_writable services count) (put at (entry_list_bytes (places_from services 0 count)) buffer) buffer
-
--- a refusal shows the filler
-abbrev pub refused_entry : Answer → ℕ → ServiceEntryRead
-refused_entry a place = record { answer = a; place = place; entry = filler }

@@ -1,14 +1,14 @@
 -- Rules E1 to E4: an entry, six bytes read.
-use Rattle.std.specs.Prelude.{cond, not, List, [], ◌∷◌, ℕ, eqb}
-use Rattle.basis.specs.Answer.{InvalidFixedBits, InvalidServiceNumber}
+use Rattle.std.specs.Prelude.{cond, not, List, [], ◌∷◌, ℕ, Result, eqb}
+use Rattle.basis.specs.declared.refusal.Refusal.TheVariants.{InvalidFixedBits, InvalidServiceNumber}
 use Rattle.basis.specs.Bytes.{byte}
-use Rattle.basis.specs.Check.{Check, check_at, verdict, answer, place_of, if_clear}
+use Rattle.basis.specs.Check.{Check, check_at, read_as, verdict}
+use Rattle.basis.specs.declared.refusal.Refused.{Refused}
 use Rattle.basis.specs.declared.test.ByteTest.TheVariants.{KindFixed, KindNumber, KindField, EntryFlags, EntryEnd}
 use Rattle.basis.specs.declared.test.Test.TheVariants.{Byte}
 use Rattle.basis.specs.Mask.{under, all_set, all_clear, x80, x40, x3f, x3e, x01}
-use Rattle.service_entry.specs.Service.{digital_entry, entry, filler}
+use Rattle.service_entry.specs.Service.{digital_entry, entry}
 use Rattle.service_entry.specs.declared.entry.ServiceEntry.{ServiceEntry}
-use Rattle.service_entry.specs.declared.entry.ServiceEntryRead.{ServiceEntryRead}
 use Rattle.service_entry.specs.declared.service.FieldOrService.{FieldOrService}
 use Rattle.service_entry.specs.declared.service.FieldOrService.TheVariants.{Field, Service}
 
@@ -39,8 +39,6 @@ service_of kind flags =
 abbrev pub entry_of : List ℕ → ServiceEntry
 entry_of e = entry (byte e 0 ∷ byte e 1 ∷ byte e 2 ∷ []) (service_of (byte e 3) (byte e 4))
 
--- what reading the six bytes gives
-unfoldable pub entry_read : List ℕ → ServiceEntryRead
-entry_read e =
-    let v = verdict (entry_checks e) in
-    record { answer = answer v 0; place = place_of v; entry = if_clear v (entry_of e) filler }
+-- what reading the six bytes gives; a refusal gives no entry
+unfoldable pub entry_read : List ℕ → Result ServiceEntry Refused
+entry_read e = read_as (verdict (entry_checks e)) (entry_of e)

@@ -1,6 +1,6 @@
 -- Writing an entry.
 use Rattle.std.specs.Prelude.{Bool, true, cond, ◌&&◌, List, [], ◌∷◌, ℕ, ◌+◌, leb, length}
-use Rattle.basis.specs.Answer.{NotWritable}
+use Rattle.basis.specs.declared.refusal.Refusal.TheVariants.{NotWritable}
 use Rattle.basis.specs.Bytes.{byte}
 use Rattle.basis.specs.Check.{WriteCheck, check, room_check, verdict}
 use Rattle.basis.specs.Mask.{flag}

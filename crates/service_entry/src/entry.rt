@@ -1,37 +1,15 @@
 // Rules E1 to E4: the six bytes of an entry, read.
 ghost use Rattle.std.specs.Prelude.{◌≡◌};
 ghost use Rattle.service_entry.specs.Entry as Entry;
-ghost use Rattle.service_entry.specs.Code as Code;
 ghost use Rattle.service_entry.specs.Service as Service;
 
 use crate::service::{DigitalServiceEntry, FieldOrService};
-use basis::Answer;
+use basis::{Refusal, Refused};
 
 #[derive(Clone, Copy)]
 pub struct ServiceEntry {
     pub language: [u8; 3],
     pub service: FieldOrService,
-}
-
-// What reading gives: beside a refusal, its place in the entry, and the filler.
-#[derive(Clone, Copy)]
-pub struct ServiceEntryRead {
-    pub answer: Answer,
-    pub place: usize,
-    pub entry: ServiceEntry,
-}
-
-impl ServiceEntryRead {
-    // A refusal shows the filler.
-    fn refused(answer: Answer, place: usize) -> Self
-        ensures { result ≡ Code.refused_entry answer place }
-    {
-        Self {
-            answer,
-            place,
-            entry: ServiceEntry::FILLER,
-        }
-    }
 }
 
 impl ServiceEntry {
@@ -66,8 +44,8 @@ impl ServiceEntry {
     }
 
     // Reads the six bytes. Number 0 is answered before bytes 4 and 5 are looked at.
-    #[tactic(auto, using(crate::proofs::EntryReads::no_number))]
-    pub fn parse(bytes: [u8; 6]) -> ServiceEntryRead
+    #[tactic(auto, using(crate::proofs::EntryReads::no_40, crate::proofs::EntryReads::no_number, crate::proofs::EntryReads::no_3_e, crate::proofs::EntryReads::no_3_f, crate::proofs::EntryReads::no_ff, crate::proofs::EntryReads::all_right))]
+    pub fn parse(bytes: [u8; 6]) -> Result<Self, Refused>
         ensures { result ≡ Entry.entry_read bytes }
     {
         let kind = bytes[3];
@@ -75,31 +53,27 @@ impl ServiceEntry {
         let last = bytes[5];
         // Bit 40 is set.
         if kind / 64 % 2 != 1 {
-            return ServiceEntryRead::refused(Answer::INVALID_FIXED_BITS, 3);
+            return Err(Refused::at(Refusal::InvalidFixedBits, 3));
         }
         if kind / 128 % 2 == 1 {
             // A digital number, which is not 0.
             if kind % 64 == 0 {
-                return ServiceEntryRead::refused(Answer::INVALID_SERVICE_NUMBER, 3);
+                return Err(Refused::at(Refusal::InvalidServiceNumber, 3));
             }
         } else {
             // A field: all of 3E is set.
             if kind / 2 % 32 != 31 {
-                return ServiceEntryRead::refused(Answer::INVALID_FIXED_BITS, 3);
+                return Err(Refused::at(Refusal::InvalidFixedBits, 3));
             }
         }
         // All of 3F is set.
         if flags % 64 != 63 {
-            return ServiceEntryRead::refused(Answer::INVALID_FIXED_BITS, 4);
+            return Err(Refused::at(Refusal::InvalidFixedBits, 4));
         }
         if last != 0xFF {
-            return ServiceEntryRead::refused(Answer::INVALID_FIXED_BITS, 5);
+            return Err(Refused::at(Refusal::InvalidFixedBits, 5));
         }
-        ServiceEntryRead {
-            answer: Answer::done(0),
-            place: 0,
-            entry: Self::of_bytes(bytes),
-        }
+        Ok(Self::of_bytes(bytes))
     }
 }
 

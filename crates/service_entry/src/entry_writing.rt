@@ -6,7 +6,7 @@ ghost use Rattle.service_entry.specs.Code as Code;
 
 use crate::entry::ServiceEntry;
 use crate::service::FieldOrService;
-use basis::{Answer, flag};
+use basis::{Answer, Refusal, flag};
 
 impl ServiceEntry {
     // How many bytes an entry is.
@@ -31,11 +31,11 @@ impl ServiceEntry {
         ensures out_after { out.new ≡ (Writing.entry_written self out.old).buffer }
     {
         if !self.is_writable() {
-            return Answer::NOT_WRITABLE;
+            return Answer::from(Refusal::NotWritable);
         }
         let room = out.len();
         if room < Self::BYTE_LEN {
-            return Answer::buffer_too_short(Self::BYTE_LEN, room);
+            return Answer::from(Refusal::BufferTooShort(Self::BYTE_LEN, room));
         }
         self.put_at(0, out);
         Answer::done(Self::BYTE_LEN)
@@ -43,7 +43,7 @@ impl ServiceEntry {
 
     // Whether so many of these entries can be written; then, if there is room for all, they are put from a place on, each
     // behind its header byte. Both loops stand here, since each function that indexes the array stores it once more.
-    #[tactic(auto, using(crate::proofs::EntriesWrites::ahead_goes_on))]
+    #[tactic(auto, using(crate::proofs::EntriesWrites::taken_goes_on))]
     pub fn put_all(services: [Self; 15], count: usize, at: usize, out: &mut [u8]) -> bool
         ensures value { result ≡ Code.places_writable services count }
         ensures out_after { out.new ≡ Code.entries_left services count at out.old }
@@ -51,8 +51,7 @@ impl ServiceEntry {
         if 15 < count {
             return false;
         }
-        for k in 0..count {
-            let entry = services[k];
+        for entry in &services[..count] {
             if !entry.is_writable() {
                 return false;
             }
@@ -62,6 +61,7 @@ impl ServiceEntry {
         if room < needed || room - needed < at {
             return true;
         }
+        // By number, since an entry's place hangs on it.
         for k in 0..count {
             let entry = services[k];
             entry.put_in_section(at + Self::BYTE_LEN_IN_SECTION * k, out);
@@ -82,7 +82,8 @@ impl ServiceEntry {
         }
     }
 
-    // The entry behind its header byte, as a section has it.
+    // The entry behind its header byte, as a section has it. That it can be written is asked of the caller: a private type
+    // that says so would be longer than the four clauses here.
     fn put_in_section(self, at: usize, out: &mut [u8])
         requires service_writable { Writing.writable self.service ≡ true }
         requires at_in_bounds { at + Writing.seven_length ≤ length out.old }

@@ -5,5 +5,5 @@ mod entry;
 mod entry_writing;
 mod service;
 
-pub use entry::{ServiceEntry, ServiceEntryRead};
+pub use entry::ServiceEntry;
 pub use service::{DigitalServiceEntry, FieldOrService};

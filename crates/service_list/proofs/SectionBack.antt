@@ -12,9 +12,10 @@ use borrow.Author.Tests.{eq-eqb, ne_eqb, le-leb, eqb-true}
 use Rattle.basis.proofs.Bools.{and_left, and_right}
 use Rattle.basis.proofs.Places.{byte_on, further_on}
 use Rattle.basis.proofs.Verdicts.{and_then, moved_clear, moved_verdict, verdict_append, verdict_moved}
-use Rattle.basis.specs.Answer.{ServiceNumberMismatch, done, refused}
+use Rattle.basis.specs.declared.refusal.Refusal.TheVariants.{ServiceNumberMismatch}
+use Rattle.std.specs.Prelude.{Ok, Err}
 use Rattle.basis.specs.Bytes.{byte}
-use Rattle.basis.specs.Check.{Check, Verdict, check_at, moved, rule_at, verdict, clear, broken}
+use Rattle.basis.specs.Check.{Check, Verdict, check_at, moved, refused_at, rule_at, verdict, clear, broken}
 use Rattle.basis.specs.declared.test.ByteTest.TheVariants.{HeaderNumber}
 use Rattle.basis.specs.declared.test.Test.TheVariants.{Byte}
 use Rattle.basis.specs.Mask.{flag, under, all_set, x80, x40, x20, x10, x3f, x0f}
@@ -33,7 +34,7 @@ use Rattle.service_entries.specs.Entries.{
 }
 use Rattle.service_list.specs.Section.{section_read, list_of}
 use Rattle.service_entry.specs.Service.{number_of}
-use Rattle.service_list.specs.ServiceList.{list, empty}
+use Rattle.service_list.specs.ServiceList.{list}
 use Rattle.basis.specs.Writing.{Written}
 use Rattle.service_entry.specs.EntryWriting.{writable, header_byte, entry_bytes, seven_bytes}
 use Rattle.service_entry.specs.Code.{all_writable}
@@ -253,23 +254,19 @@ module _ (l : ServiceInfo) (r : Ready l) where
 -- and gives the same flags, count and counted entries, with fillers in the places past the count.
 pub section_back : (l : ServiceInfo) → Ready l → all_of_three (counted l) ≡ true → names_field_two (counted l) ≡ false
     → section_read (section_bytes l)
-    ≡ record { answer = done 0; place = 0; list = list l.start l.change l.complete (filled (counted l)) l.count }
+    ≡ Ok (list l.start l.change l.complete (filled (counted l)) l.count)
 unfolding section_read
 section_back l r languages none = rw (section_verdict l r, none, list_back_lem l r languages)
 
 -- Where the places past the count hold fillers already, that is the list itself.
 pub list_same : (l : ServiceInfo) → Ready l → all_of_three (counted l) ≡ true → names_field_two (counted l) ≡ false
-    → l.services ≡ filled (counted l) → section_read (section_bytes l) ≡ record { answer = done 0; place = 0; list = l }
+    → l.services ≡ filled (counted l) → section_read (section_bytes l) ≡ Ok l
 list_same l r languages none rest = section_back l r languages none ∙ rw (← rest)
 
 -- A list that can be written, and that names field 2 anywhere: reading its section is answered 7 at the header byte of the
--- first such entry, with the empty list.
+-- first such entry.
 pub field_two_refused : (l : ServiceInfo) → Ready l → names_field_two (counted l) ≡ true
-    → section_read (section_bytes l) ≡ record {
-      answer = refused ServiceNumberMismatch;
-      place = section_length (before_field_two (counted l));
-      list = empty;
-    }
+    → section_read (section_bytes l) ≡ Err (refused_at ServiceNumberMismatch (section_length (before_field_two (counted l))))
 unfolding section_read
 field_two_refused l r some = rw (section_verdict l r, some)
 
@@ -288,14 +285,10 @@ module _ (l : ServiceInfo) (buffer : List ℕ) (taken : eqb (section_written l b
 
   pub written_back : all_of_three (counted l) ≡ true → names_field_two (counted l) ≡ false
       → section_read (take (section_written l buffer).answer.first (section_written l buffer).buffer)
-      ≡ record { answer = done 0; place = 0; list = list l.start l.change l.complete (filled (counted l)) l.count }
+      ≡ Ok (list l.start l.change l.complete (filled (counted l)) l.count)
   written_back languages h = rw first_written (section_back l ready languages h)
 
   pub written_field_two : names_field_two (counted l) ≡ true
       → section_read (take (section_written l buffer).answer.first (section_written l buffer).buffer)
-      ≡ record {
-        answer = refused ServiceNumberMismatch;
-        place = section_length (before_field_two (counted l));
-        list = empty;
-      }
+      ≡ Err (refused_at ServiceNumberMismatch (section_length (before_field_two (counted l))))
   written_field_two h = rw first_written (field_two_refused l ready h)

@@ -9,7 +9,8 @@ use borrow.Author.Tests.{le-leb, leb-true}
 use lib.Dec.{eqb, leb}
 use lib.ListN.{length, set, drop}
 use Rattle.basis.proofs.Verdicts.{done_clear}
-use Rattle.basis.specs.Answer.{WouldOverflow, BufferTooShort, NotWritable, done, refused}
+use Rattle.basis.specs.Answer.{done, refused}
+use Rattle.basis.specs.declared.refusal.Refusal.TheVariants.{WouldOverflow, BufferTooShort, NotWritable}
 use Rattle.basis.specs.Bytes.{over}
 use Rattle.basis.specs.Check.{WriteVerdict, clear, broken, unplaced, verdict, answer}
 use Rattle.values.specs.Layout.{services_id, section_head_size, section_length}

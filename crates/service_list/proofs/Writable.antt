@@ -4,7 +4,8 @@ use mathlib.Core.Path.{◌≡◌}
 use mathlib.Core.Bool.{true, false}
 use Prim.Native.Nat.{◌≤◌, ◌<◌}
 use borrow.Author.Tests.{le-leb, lt-leb}
-use Rattle.basis.specs.Answer.{WouldOverflow, NotWritable, done, refused}
+use Rattle.basis.specs.Answer.{done, refused}
+use Rattle.basis.specs.declared.refusal.Refusal.TheVariants.{WouldOverflow, NotWritable}
 use Rattle.service_entry.proofs.EntriesWrites.{entries_verdict}
 use Rattle.service_entry.specs.Code.{all_writable}
 use Rattle.service_list.specs.Code.{value_answer}

@@ -1,6 +1,6 @@
 -- The list: three flags, fifteen places, a count; and the calls on it.
 use Rattle.std.specs.Prelude.{Bool, true, false, cond, List, [], ◌∷◌, ℕ, ◌+◌, leb, ltb, set}
-use Rattle.basis.specs.Answer.{WouldOverflow}
+use Rattle.basis.specs.declared.refusal.Refusal.TheVariants.{WouldOverflow}
 use Rattle.basis.specs.Check.{WriteCheck, check, verdict, answer, if_clear}
 use Rattle.service_entries.specs.Entries.{places, fillers}
 use Rattle.service_entry.specs.declared.entry.ServiceEntry.{ServiceEntry}

@@ -6,5 +6,4 @@ mod section;
 mod section_writing;
 
 pub use list::{MaybeServiceInfo, ServiceInfo, ServiceInfoAdded};
-pub use section::ServiceInfoRead;
-pub use service_entry::{DigitalServiceEntry, FieldOrService, ServiceEntry, ServiceEntryRead};
+pub use service_entry::{DigitalServiceEntry, FieldOrService, ServiceEntry};

@@ -3,11 +3,12 @@ ghost use Rattle.std.specs.Prelude.{◌≡◌};
 ghost use Rattle.service_list.specs.ServiceList as List;
 ghost use Rattle.service_entries.specs.Entries.{places};
 
-use basis::Answer;
+use basis::{Answer, Refusal};
 use service_entries::fillers;
 use service_entry::ServiceEntry;
 use values::Packet;
 
+// No slice and no Vec: a list holds its entries by value, fifteen places beside a count, and the panel has no heap.
 #[derive(Clone, Copy)]
 pub struct ServiceInfo {
     pub start: bool,
@@ -17,7 +18,8 @@ pub struct ServiceInfo {
     pub count: usize,
 }
 
-// A list that may be absent; then it is empty.
+// A list that may be absent; then it is empty. No Option: a writer may be handed an absent one that has entries, which it
+// does not read (absent_list_counted, list_flags_when_not_held and unheld_field_2_counts in must-fail/).
 #[derive(Clone, Copy)]
 pub struct MaybeServiceInfo {
     pub present: bool,
@@ -36,7 +38,8 @@ impl MaybeServiceInfo {
     }
 }
 
-// What adding gives: beside a refusal, the list as it was.
+// What adding gives: beside a refusal, the list as it was. No Result: lists are handed over by value, so that a refusal
+// gives the list back too.
 #[derive(Clone, Copy)]
 pub struct ServiceInfoAdded {
     pub answer: Answer,
@@ -114,7 +117,7 @@ impl ServiceInfo {
         let at = self.count;
         if Self::PLACES <= at {
             return ServiceInfoAdded {
-                answer: Answer::WOULD_OVERFLOW,
+                answer: Answer::from(Refusal::WouldOverflow),
                 list: self,
             };
         }
@@ -131,7 +134,7 @@ impl ServiceInfo {
         ensures { result ≡ List.byte_len self }
     {
         if Self::PLACES < self.count {
-            return Answer::WOULD_OVERFLOW;
+            return Answer::from(Refusal::WouldOverflow);
         }
         Answer::done(Packet::SECTION_HEAD_LEN + Packet::SECTION_ENTRY_LEN * self.count)
     }

@@ -4,7 +4,7 @@ ghost use Rattle.service_list.specs.SectionWriting as Writing;
 ghost use Rattle.service_list.specs.Code.{value_answer};
 
 use crate::list::ServiceInfo;
-use basis::{Answer, flag};
+use basis::{Answer, Refusal, flag};
 use service_entry::ServiceEntry;
 use values::Packet;
 
@@ -16,12 +16,12 @@ impl ServiceInfo {
         let count = self.count;
         let services = self.services;
         if Self::PLACES < count {
-            return Answer::WOULD_OVERFLOW;
+            return Answer::from(Refusal::WouldOverflow);
         }
         // With no room nothing is put, and the entries are tested.
         let mut none = [0u8; 0];
         if !ServiceEntry::put_all(services, count, 0, &mut none) {
-            return Answer::NOT_WRITABLE;
+            return Answer::from(Refusal::NotWritable);
         }
         Answer::done(0)
     }
@@ -37,12 +37,12 @@ impl ServiceInfo {
         }
         let services = self.services;
         if !ServiceEntry::put_all(services, self.count, Packet::SECTION_HEAD_LEN, out) {
-            return Answer::NOT_WRITABLE;
+            return Answer::from(Refusal::NotWritable);
         }
         let needed = length.first;
         let room = out.len();
         if room < needed {
-            return Answer::buffer_too_short(needed, room);
+            return Answer::from(Refusal::BufferTooShort(needed, room));
         }
         out[0] = Packet::SVC_INFO_ID;
         out[1] = self.header_byte();

@@ -1,53 +1,33 @@
 // Standard input.
 ghost use Rattle.io.specs.Counts.{IsPrefixLen};
+ghost use Rattle.std.specs.Prelude.{IfOk};
 
 use std::io;
 use std::io::Read;
 
-// How many bytes were put at the start of a buffer, and whether a read failed behind them.
-#[derive(Clone, Copy)]
-pub struct Input {
-    pub count: usize,
-    pub failed: bool,
-}
-
-// Reads until the buffer is full, the input ends or a read fails; a pipe hands out its bytes in parts.
-pub fn read_all(rt: &(impl io::Input + Eprint), buf: &mut [u8]) -> Input
-    ensures { IsPrefixLen result.count buf.new }
+// Reads until the buffer is full, the input ends or a read fails; a pipe hands out its bytes in parts. How many there are
+// is given: they stand at the buffer's start.
+pub fn read_all(rt: &(impl io::Input + Eprint), buf: &mut [u8]) -> io::Result<usize>
+    ensures { IfOk result (λ count. IsPrefixLen count buf.new) }
 {
     let mut count = 0;
+    // No `for`: how much is read at once is the system's to say.
     while count < buf.len() {
-        let part = read_part(rt, &mut buf[count..]);
-        if part.count == 0 {
-            return Input {
-                count,
-                failed: part.failed,
-            };
+        let got = read_part(rt, &mut buf[count..])?;
+        if got == 0 {
+            break;
         }
-        count += part.count;
+        count += got;
     }
-    Input {
-        count,
-        failed: false,
-    }
+    Ok(count)
 }
 
-// Reads once. Nothing is read where the input has ended, and where the read fails.
-pub fn read_part(rt: &(impl io::Input + Eprint), buf: &mut [u8]) -> Input
-    ensures { IsPrefixLen result.count buf.new }
+// Reads once. Nothing is read where the input has ended.
+pub fn read_part(rt: &(impl io::Input + Eprint), buf: &mut [u8]) -> io::Result<usize>
+    ensures { IfOk result (λ count. IsPrefixLen count buf.new) }
 {
-    match rt.reader().read(buf) {
-        Ok(got) => Input {
-            count: got,
-            failed: false,
-        },
-        Err(_) => {
-            // Where this line cannot be written either, nothing is left to be told.
-            let _ = rt.eprintln("standard input could not be read");
-            Input {
-                count: 0,
-                failed: true,
-            }
-        }
-    }
+    rt.reader().read(buf).inspect_err(|_| {
+        // Where this line cannot be written either, nothing is left to be told.
+        let _ = rt.eprintln("standard input could not be read");
+    })
 }

@@ -1,4 +1,3 @@
 pub mod Changes
 pub mod Mends
 pub mod Parts
-pub mod Rows

@@ -1,6 +1,6 @@
 -- The byte that mends, and the packet with it.
 -- Assumes nothing.
-use Rattle.std.proofs.Common.{◌≡◌, ℕ, ◌+◌, ◌-◌, ◌%◌, ◌<◌, ◌≤◌, Bool, true, false, cond, leb, List, length, take, set, refl, ◌∙◌, arith, length-set, set-set, le-leb}
+use Rattle.std.proofs.Common.{◌≡◌, ℕ, ◌+◌, ◌-◌, ◌%◌, ◌<◌, ◌≤◌, Bool, true, false, cond, leb, List, [], ◌∷◌, fold, length, take, set, refl, ◌∙◌, arith, length-set, set-set, le-leb}
 use borrow.Author.Tests.{lt-leb}
 use Rattle.basis.specs.Bytes.{byte}
 use Rattle.values.specs.Checksum.{negative, total}
@@ -32,3 +32,11 @@ length_mended behind p = length_either (leb (behind + 1) (length p)) _ _ p
 pub length_finished : (behind : ℕ) (p : List ℕ) → length (finished behind p) ≡ length p
 unfolding finished
 length_finished behind p = length_mended behind _ ∙ length-set p 2 _
+
+-- bytes added one after the other, modulo 256
+added : (s : ℕ) (bytes : List ℕ) → fold (λ (a b : ℕ). (a + b) % 256) (s % 256) bytes ≡ (s + total bytes) % 256
+added s [] = omega arith
+added s (b ∷ bytes) = added (s % 256 + b) bytes ∙ omega arith
+
+pub sum_folded : (bytes : List ℕ) → fold (λ (a b : ℕ). (a + b) % 256) 0 bytes ≡ total bytes % 256
+sum_folded bytes = added 0 bytes ∙ omega arith

@@ -1,19 +1,21 @@
 -- What a reader shows, fed to a digest. What is absent is fed too.
-use Rattle.std.specs.Prelude.{ℕ, ◌/◌}
+use Rattle.std.specs.Prelude.{ℕ, ◌/◌, Option, is_some, unwrap_or}
 use Rattle.report.specs.Digest.{fed, flag_fed, list_fed, two_fed}
 use Rattle.service_entries.specs.Entries.{places}
 use Rattle.reader.specs.declared.parser.CDPParser.{CDPParser}
 use Rattle.service_list.specs.declared.list.MaybeServiceInfo.{MaybeServiceInfo}
 use Rattle.values_time.specs.declared.time.MaybeTimeCode.{MaybeTimeCode}
-use Rattle.values.specs.declared.framerate.MaybeFramerate.{MaybeFramerate}
+use Rattle.values.specs.Rate.{row}
+use Rattle.values.specs.declared.framerate.Framerate.{Framerate}
 
 -- the low four bytes of a number, high byte first
 abbrev pub four_fed : ℕ → ℕ → ℕ
 four_fed digest n = two_fed (two_fed digest (n / 65536)) n
 
-unfoldable pub rate_fed : ℕ → MaybeFramerate → ℕ
-rate_fed digest m =
-    four_fed (four_fed (fed (flag_fed digest m.present) m.framerate.id) m.framerate.numer) m.framerate.denom
+unfoldable pub rate_fed : ℕ → Option Framerate → ℕ
+rate_fed digest found =
+    let r = unwrap_or found (row 0 0 0) in
+    four_fed (four_fed (fed (flag_fed digest (is_some found)) r.id) r.numer) r.denom
 
 unfoldable pub time_code_fed : ℕ → MaybeTimeCode → ℕ
 time_code_fed digest m =

@@ -7,6 +7,7 @@ pub fn repeat(out: &mut [u8], from: usize, byte: u8, count: u8) -> usize
     ensures { PutInRoom from (replicate count byte) out.old result out.new }
 {
     let mut at = from;
+    // A closure would have to change what is lent.
     for k in 0..count {
         at = text::byte(out, at, byte);
     }

@@ -23,6 +23,7 @@ pub fn values(held: CDPParser, packet: &mut [u8], change: Change, captions: &mut
     ensures captions_after { captions.new ≡ (Changes.all_values held change packet.old captions.old).captions }
 {
     let mut tally = Tally::NONE;
+    // A closure would have to change what is lent.
     for value in 0..256 {
         tally = changed(tally, held, packet, change, value, captions);
     }

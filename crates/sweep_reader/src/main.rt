@@ -12,59 +12,84 @@ mod read;
 mod recipes;
 mod shown;
 
+use crate::change::{Change, values};
 use crate::recipes::Recipe;
 use reader::CDPParser;
+use std::io;
 
-// All buffers are made here, once, and lent from here on: the packet's, the captions' with the least room that a reader
-// takes, and a line's.
-fn main(rt: HostRuntime) {
-    let mut room = [0u8; 256];
-    let mut captions = [0u8; 95];
-    let mut out = [0u8; 64];
-    sweep(&rt, &mut room, &mut captions, &mut out);
-}
-
-// Packet 0 is read first, and each other one by a reader that holds what it left, so that what a refusal keeps and what
-// it clears shows.
-fn sweep(rt: &(impl Print + Eprint), room: &mut [u8], captions: &mut [u8], out: &mut [u8]) {
-    let size = make::packet(room, Recipe::new(0));
-    // The room is enough for all of them.
-    if room.len() < size {
-        return;
-    }
-    let first = CDPParser::new().parse(&room[0..size], captions);
-    let held = first.parser;
-    packets(rt, held, room, captions, out);
-}
-
-// Behind a line that cannot be written there are no others.
-fn packets(
-    rt: &(impl Print + Eprint),
+// The reader that reads each packet, and the buffers: a packet's, the captions' with the least room that a reader takes,
+// and a line's.
+#[derive(Drop)]
+struct Sweep {
     held: CDPParser,
-    room: &mut [u8],
-    captions: &mut [u8],
-    out: &mut [u8],
-) {
-    for number in 1..11 {
-        if !packet(rt, held, number, room, captions, out) {
-            return;
+    room: [u8; 256],
+    captions: [u8; 95],
+    line: [u8; 64],
+}
+
+// All buffers are made here, once, and lent from here on.
+fn main(rt: HostRuntime) {
+    let mut sweep = Sweep::new();
+    // What failed has been said.
+    let _ = sweep.packets(&rt);
+}
+
+impl Sweep {
+    // Packet 0 is read first, and each other one by a reader that holds what it left, so that what a refusal keeps and
+    // what it clears shows.
+    fn new() -> Self {
+        let mut room = [0u8; 256];
+        let mut captions = [0u8; 95];
+        let size = make::packet(&mut room, Recipe::new(0));
+        let first = CDPParser::new().parse(&room[..size], &mut captions);
+        Self {
+            held: first.parser,
+            room,
+            captions,
+            line: [0u8; 64],
         }
     }
-}
 
-// From here on the lent packet is as long as the one that is made.
-fn packet(
-    rt: &(impl Print + Eprint),
-    held: CDPParser,
-    number: u8,
-    room: &mut [u8],
-    captions: &mut [u8],
-    out: &mut [u8],
-) -> bool {
-    let recipe = Recipe::new(number);
-    let size = make::packet(room, recipe);
-    if room.len() < size {
-        return false;
+    // Behind a line that cannot be written there are no others.
+    fn packets(&mut self, rt: &(impl Print + Eprint)) -> io::Result<()> {
+        for number in 1..11 {
+            self.places(rt, Recipe::new(number))?;
+        }
+        Ok(())
     }
-    lines::places(rt, held, recipe, &mut room[0..size], captions, out)
+
+    // A line for each place of a packet, mended and not.
+    fn places(&mut self, rt: &(impl Print + Eprint), recipe: Recipe) -> io::Result<()> {
+        let size = make::packet(&mut self.room, recipe);
+        for place in 0..size {
+            for mended in [false, true] {
+                self.line(rt, recipe, place, mended)?;
+            }
+        }
+        Ok(())
+    }
+
+    // The packet is good again before each line.
+    fn line(
+        &mut self,
+        rt: &(impl Print + Eprint),
+        recipe: Recipe,
+        place: usize,
+        mended: bool,
+    ) -> io::Result<()> {
+        let Self {
+            held,
+            room,
+            captions,
+            line,
+        } = self;
+        let size = make::packet(room, recipe);
+        let change = Change {
+            place,
+            mended,
+            behind: recipe.behind,
+        };
+        let tally = values(*held, &mut room[..size], change, captions);
+        lines::tally(rt, line, recipe.number, change, tally)
+    }
 }

@@ -1,5 +1,5 @@
 // A packet that is accepted, made from its recipe. Each part is put behind the one before it.
-ghost use Rattle.std.specs.Prelude.{◌≡◌, ◌/◌, ◌%◌, length};
+ghost use Rattle.std.specs.Prelude.{◌≡◌, ◌≤◌, ◌/◌, ◌%◌, length};
 ghost use Rattle.basis.specs.Bytes.{over};
 ghost use Rattle.basis.specs.Made.{made};
 ghost use Rattle.sweep_reader.specs.Make as Make;
@@ -17,14 +17,11 @@ const FOOTER_ID: u8 = 0x74;
 // Makes the packet at the start of a lent buffer, as much of it as there is room for, and gives its size.
 pub fn packet(out: &mut [u8], recipe: Recipe) -> usize
     ensures value { result ≡ length (Make.packet_made recipe (length out.old)) }
+    ensures bound { result ≤ length out.old }
     ensures out_after { out.new ≡ over 0 (Make.packet_made recipe (length out.old)) out.old }
 {
     let size = parts(out, recipe);
-    // What was put is in the buffer.
-    if out.len() < size {
-        return size;
-    }
-    finish(&mut out[0..size], recipe.behind);
+    finish(&mut out[..size], recipe.behind);
     size
 }
 
@@ -103,6 +100,7 @@ fn caption_bytes(out: &mut [u8], from: usize, number: u8, count: u8) -> usize
     ensures { PutInRoom from (made (Make.caption_byte number) count) out.old result out.new }
 {
     let mut at = from;
+    // The number is what is made of; a closure would have to change what is lent.
     for k in 0..count {
         at = byte(out, at, caption_byte(number, k));
     }
@@ -132,6 +130,7 @@ fn entries(out: &mut [u8], from: usize, number: u8, count: u8) -> usize
     ensures { PutInRoom from (Make.entries_made number count) out.old result out.new }
 {
     let mut at = from;
+    // The number is what is made of; a closure would have to change what is lent.
     for k in 0..count {
         let bytes = entry::bytes(number, k);
         at = word(out, at, &bytes);

@@ -3,8 +3,6 @@ ghost use Rattle.std.specs.Prelude.{◌≡◌, ◌+◌, ◌%◌, ◌≤◌};
 ghost use Rattle.values.specs.Checksum.{total};
 ghost use Rattle.sweep_reader.specs.Mend as Mend;
 
-use std::num::{wrapping_add_u8, wrapping_sub_u8};
-
 // The sum that has to be 0 is that of all bytes but the last, and the checksum byte.
 pub fn mend(packet: &mut [u8], behind: u8)
     ensures { packet.new ≡ Mend.packet_mended behind packet.old }
@@ -18,8 +16,8 @@ pub fn mend(packet: &mut [u8], behind: u8)
     let checksum = size - back;
     let at = size - mender(behind);
     packet[at] = 0;
-    let rest = wrapping_add_u8(sum(&packet[0..size - 1]), packet[checksum]);
-    packet[at] = wrapping_sub_u8(0, rest);
+    let rest = sum(&packet[..size - 1]).wrapping_add(packet[checksum]);
+    packet[at] = rest.wrapping_neg();
 }
 
 // How far from the end the byte stands that mends: the checksum byte, or where bytes follow it the first of these,
@@ -31,12 +29,11 @@ fn mender(behind: u8) -> usize
     if behind == 0 { 1 } else { behind as usize }
 }
 
+// Not the reader's own: what mends a packet for it is not to come from it.
 fn sum(bytes: &[u8]) -> u8
     ensures { result ≡ total bytes.now % 256 }
 {
-    let mut sum: u8 = 0;
-    for k in 0..bytes.len() {
-        sum = wrapping_add_u8(sum, bytes[k]);
-    }
-    sum
+    bytes
+        .iter()
+        .fold(0, |sum: u8, byte| sum.wrapping_add(*byte))
 }

@@ -6,7 +6,6 @@ use crate::shown;
 use basis::Answer;
 use reader::CDPParser;
 use report::{all_fed, feed, fill, two_fed};
-use std::num::wrapping_add_u64;
 
 // The digest over all packets read, and how many of them were accepted.
 #[derive(Clone, Copy)]
@@ -52,7 +51,7 @@ fn counted(accepted: u64, answer: Answer) -> u64
     ensures { result ≡ Read.counted_in accepted answer }
 {
     if answer.is_done() {
-        wrapping_add_u64(accepted, 1)
+        accepted.wrapping_add(1)
     } else {
         accepted
     }

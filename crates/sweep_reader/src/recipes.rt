@@ -17,6 +17,7 @@ pub struct Recipe {
 
 impl Recipe {
     // Byte 3, byte 4, sequence, then how many captions, services, future sections and bytes behind the footer.
+    #[tactic(auto, unfolding(crate::specs::Recipes::recipe_of))]
     pub fn new(number: u8) -> Self
         ensures { result ≡ Recipes.recipe_of number }
     {

@@ -5,7 +5,7 @@ ghost use Rattle.sweep_reader.specs.Shown as Shown;
 use reader::CDPParser;
 use report::{feed, flag_fed, list_fed, two_fed};
 use service_list::{MaybeServiceInfo, ServiceInfo};
-use values::MaybeFramerate;
+use values::Framerate;
 use values_time::MaybeTimeCode;
 
 pub fn reader(digest: u64, shown: CDPParser) -> u64
@@ -20,11 +20,15 @@ pub fn reader(digest: u64, shown: CDPParser) -> u64
     list(sequence, service_info)
 }
 
-fn rate(digest: u64, shown: MaybeFramerate) -> u64
+fn rate(digest: u64, shown: Option<Framerate>) -> u64
     ensures { result ≡ Shown.rate_fed digest shown }
 {
-    let framerate = shown.framerate;
-    let present = flag_fed(digest, shown.present);
+    let present = flag_fed(digest, shown.is_some());
+    let framerate = shown.unwrap_or(Framerate {
+        id: 0,
+        numer: 0,
+        denom: 0,
+    });
     let id = feed(present, framerate.id);
     four(four(id, framerate.numer as u64), framerate.denom as u64)
 }

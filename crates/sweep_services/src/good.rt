@@ -13,6 +13,7 @@ pub fn size(count: u64) -> u64
 }
 
 // What stands at a place; behind the section, zeros.
+#[tactic(auto, unfolding(crate::specs::Good::good_byte))]
 pub fn byte(count: u64, place: u64) -> u8
     ensures { result ≡ Good.good_byte count place }
 {
@@ -28,6 +29,7 @@ pub fn byte(count: u64, place: u64) -> u8
 }
 
 // The byte of entry k: its header byte, three of language, and the three that name its service.
+#[tactic(auto, unfolding(crate::specs::Good::entry_byte))]
 fn entry_byte(k: u64, place: u64) -> u8
     ensures { result ≡ Good.entry_byte k place }
 {

@@ -7,41 +7,33 @@ mod good;
 mod lines;
 mod read;
 
+use std::io;
+
 // The buffer is made here, once, and has room for any line.
 fn main(rt: HostRuntime) {
     let mut out = [0u8; 64];
-    sweep(&rt, &mut out);
+    // What failed has been said.
+    let _ = sweep(&rt, &mut out);
 }
 
 // Behind a line that cannot be written there are no others.
-fn sweep(rt: &(impl Print + Eprint), out: &mut [u8]) {
-    for at in 0..800 {
-        if !part(rt, out, at) {
-            return;
+fn sweep(rt: &(impl Print + Eprint), out: &mut [u8]) -> io::Result<()> {
+    for kind in 0..=255 {
+        lines::entry(rt, out, kind)?;
+    }
+    for header in 0..=255 {
+        lines::header(rt, out, header)?;
+    }
+    for count in 0..16 {
+        for place in 0..good::size(count) {
+            lines::section(rt, out, count, place)?;
         }
     }
-}
-
-// 256 bytes 3 of an entry, 256 header bytes, the places and then the sizes of 16 sections, 256 bytes 1 of a section.
-fn part(rt: &(impl Print + Eprint), out: &mut [u8], at: u64) -> bool {
-    if at < 256 {
-        lines::entry(rt, out, at)
-    } else if at < 512 {
-        lines::header(rt, out, at - 256)
-    } else if at < 528 {
-        places(rt, out, at - 512)
-    } else if at < 544 {
-        lines::size(rt, out, at - 528)
-    } else {
-        lines::byte1(rt, out, at - 544)
+    for count in 0..16 {
+        lines::size(rt, out, count)?;
     }
-}
-
-fn places(rt: &(impl Print + Eprint), out: &mut [u8], count: u64) -> bool {
-    for place in 0..good::size(count) {
-        if !lines::section(rt, out, count, place) {
-            return false;
-        }
+    for byte in 0..=255 {
+        lines::byte1(rt, out, byte)?;
     }
-    true
+    Ok(())
 }

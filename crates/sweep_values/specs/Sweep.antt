@@ -1,14 +1,13 @@
 -- What the digests of the sweep go over: the times of an hour, and the sequences of a high byte.
-use Rattle.std.specs.Prelude.{cond, List, [], ◌∷◌, ℕ, ◌+◌, ◌*◌, ◌/◌, ◌%◌, eqb}
+use Rattle.std.specs.Prelude.{List, [], ◌∷◌, ℕ, ◌+◌, ◌*◌, ◌/◌, ◌%◌, Result, Ok, Err, eqb}
+use Rattle.basis.specs.Answer.{refused}
 use Rattle.basis.specs.Bytes.{byte}
+use Rattle.basis.specs.declared.refusal.Refusal.{Refusal}
 use Rattle.values.specs.Checksum.{total, negative}
 use Rattle.values.specs.Sequence.{sequence_of, sequence_bytes}
 use Rattle.values_time.specs.Time.{time_code, time_written}
 use Rattle.report.specs.Digest.{fed, two_fed, all_fed, swept}
 use Rattle.values_time.specs.declared.time.TimeCode.{TimeCode}
-use Rattle.values_time.specs.declared.time.TimeCodeWritten.{TimeCodeWritten}
-use Rattle.sweep_values.specs.declared.digest.Block.{Block}
-use Rattle.sweep_values.specs.declared.digest.Block.TheVariants.{Times, Sequences}
 
 -- the nth time of an hour: drop frame changes first, then the field, 41 frames, 81 seconds, 81 minutes
 abbrev pub nth_time : ℕ → ℕ → TimeCode
@@ -16,10 +15,9 @@ nth_time hours n =
     time_code (hours % 256) (n / 13284 % 81) (n / 164 % 81) (n / 4 % 41) (eqb (n / 2 % 2) 1) (eqb (n % 2) 1)
 
 -- what is answered and, where it is done, the four bytes
-abbrev pub written_fed : ℕ → TimeCodeWritten → ℕ
-written_fed digest w =
-    let answered = fed digest w.answer.number in
-    cond (eqb w.answer.number 0) (all_fed answered w.bytes) answered
+abbrev pub written_fed : ℕ → Result (List ℕ) Refusal → ℕ
+written_fed digest (Ok bytes) = all_fed (fed digest 0) bytes
+written_fed digest (Err why) = fed digest (refused why).number
 
 unfoldable pub nth_time_fed : ℕ → ℕ → ℕ → ℕ
 nth_time_fed hours digest n = written_fed digest (time_written (nth_time hours n))
@@ -48,8 +46,3 @@ times_digest hours = swept (nth_time_fed hours) 1076004
 -- the digest of a high byte
 abbrev pub sequences_digest : ℕ → ℕ
 sequences_digest high = swept (nth_sequence_fed high) 256
-
--- what a digest is fed at each step
-abbrev pub value_step : Block → ℕ → ℕ → ℕ → ℕ
-value_step Times = nth_time_fed
-value_step Sequences = nth_sequence_fed

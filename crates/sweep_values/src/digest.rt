@@ -1,53 +1,27 @@
 // Digests of what is too much to print.
 ghost use Rattle.std.specs.Prelude.{◌≡◌};
-ghost use Rattle.report.specs.Digest.{swept};
 ghost use Rattle.sweep_values.specs.Sweep as Sweep;
 
+use basis::Answer;
 use report::{all_fed, feed, two_fed};
 use values_time::TimeCode;
 
-// What a digest goes over.
-#[derive(Clone, Copy)]
-enum Block {
-    // Every minute, second and frame of an hour, one past each limit included, with field and drop frame: what is
-    // answered and, where it is done, the four bytes.
-    Times,
-    // Every low byte of a high one: the sequence's two bytes, the checksum of the smallest packet that has it, and the
-    // sequence read back.
-    Sequences,
-}
-
+// Every minute, second and frame of an hour, one past each limit included, with field and drop frame.
 pub fn times(hours: u64) -> u64
     ensures { result ≡ Sweep.times_digest hours }
 {
-    over(Block::Times, hours, 1076004)
+    (0..1076004).fold(0, |digest, n| time_fed(digest, hours, n))
 }
 
+// Every low byte of a high one.
 pub fn sequences(high: u64) -> u64
     ensures { result ≡ Sweep.sequences_digest high }
 {
-    over(Block::Sequences, high, 256)
+    (0..256).fold(0, |digest, low| sequence_fed(digest, high, low))
 }
 
-fn over(block: Block, first: u64, count: u64) -> u64
-    ensures { result ≡ swept (Sweep.value_step block first) count }
-{
-    let mut digest = 0;
-    for n in 0..count {
-        digest = fed(block, digest, first, n);
-    }
-    digest
-}
-
-fn fed(block: Block, digest: u64, first: u64, n: u64) -> u64
-    ensures { result ≡ Sweep.value_step block first digest n }
-{
-    match block {
-        Block::Times => time_fed(digest, first, n),
-        Block::Sequences => sequence_fed(digest, first, n),
-    }
-}
-
+// What is answered and, where it is done, the four bytes.
+#[tactic(auto, unfolding(crate::specs::Sweep::nth_time_fed))]
 fn time_fed(digest: u64, hours: u64, n: u64) -> u64
     ensures { result ≡ Sweep.nth_time_fed hours digest n }
 {
@@ -59,15 +33,14 @@ fn time_fed(digest: u64, hours: u64, n: u64) -> u64
         n / 2 % 2 == 1,
         n % 2 == 1,
     );
-    let written = time.to_bytes();
-    let bytes = written.bytes;
-    let fed = feed(digest, written.answer.number);
-    if !written.answer.is_done() {
-        return fed;
+    match time.to_bytes() {
+        Ok(bytes) => all_fed(feed(digest, 0), &bytes),
+        Err(refusal) => feed(digest, Answer::from(refusal).number),
     }
-    all_fed(fed, &bytes)
 }
 
+// The sequence's two bytes, the checksum of the smallest packet that has it, and the sequence read back.
+#[tactic(auto, unfolding(crate::specs::Sweep::nth_sequence_fed))]
 fn sequence_fed(digest: u64, high: u64, low: u64) -> u64
     ensures { result ≡ Sweep.nth_sequence_fed high digest low }
 {

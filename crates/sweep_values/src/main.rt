@@ -5,34 +5,36 @@
 mod digest;
 mod lines;
 
+use std::io;
+
 // The buffer is made here, once, and has room for any line.
 fn main(rt: HostRuntime) {
     let mut out = [0u8; 64];
-    sweep(&rt, &mut out);
+    // What failed has been said.
+    let _ = sweep(&rt, &mut out);
 }
 
 // Behind a line that cannot be written there are no others.
-fn sweep(rt: &(impl Print + Eprint), out: &mut [u8]) {
-    for at in 0..1897 {
-        if !line(rt, out, at) {
-            return;
+fn sweep(rt: &(impl Print + Eprint), out: &mut [u8]) -> io::Result<()> {
+    for id in 0..=255 {
+        lines::rate(rt, out, id)?;
+    }
+    for byte in 0..=255 {
+        lines::flags(rt, out, byte)?;
+    }
+    for six in 0..64 {
+        lines::made(rt, out, six)?;
+    }
+    for place in 0..4 {
+        for byte in 0..=255 {
+            lines::time(rt, out, place, byte)?;
         }
     }
-}
-
-// 256 rate ids, 256 flag bytes read, 64 made, 4 times 256 time bytes read, 41 hours written, 256 high sequence bytes.
-fn line(rt: &(impl Print + Eprint), out: &mut [u8], at: u64) -> bool {
-    if at < 256 {
-        lines::rate(rt, out, at)
-    } else if at < 512 {
-        lines::flags(rt, out, at - 256)
-    } else if at < 576 {
-        lines::made(rt, out, at - 512)
-    } else if at < 1600 {
-        lines::time(rt, out, at - 576)
-    } else if at < 1641 {
-        lines::write(rt, out, at - 1600)
-    } else {
-        lines::sequence(rt, out, at - 1641)
+    for hours in 0..41 {
+        lines::write(rt, out, hours)?;
     }
+    for high in 0..=255 {
+        lines::sequence(rt, out, high)?;
+    }
+    Ok(())
 }

@@ -1,21 +1,48 @@
 -- The entries of a list, one after the other, and the list that holds them.
 -- Assumes nothing.
-use mathlib.Core.Path.{◌≡◌, ◌∙◌, sym, refl, ap, ap₂}
-use mathlib.Core.Bool.{Bool, true, false, cond}
-use mathlib.Core.List.{List, [], ◌∷◌, ◌++◌, append_assoc, append-nil}
-use Prim.Native.Nat.{ℕ, zero, suc, ◌+◌, ◌-◌, ◌≤◌, ◌<◌}
-use native.Mathlib.Omega.{arith}
-use borrow.Author.Tests.{eq-eqb, ne_eqb, ltb-true, ltb-false}
+use Rattle.std.proofs.Common.{
+  ◌≡◌,
+  ◌∙◌,
+  sym,
+  refl,
+  ap,
+  ap₂,
+  ℕ,
+  zero,
+  suc,
+  ◌+◌,
+  ◌-◌,
+  ◌≤◌,
+  ◌<◌,
+  Bool,
+  true,
+  false,
+  cond,
+  List,
+  [],
+  ◌∷◌,
+  ◌++◌,
+  length,
+  take,
+  Option,
+  Some,
+  None,
+  arith,
+  append_assoc,
+  append-nil,
+  length-append,
+}
+use borrow.Author.Tests.{ltb-true, ltb-false}
 use lib.Dec.{ltb}
-use lib.ListN.{length, set, take, length-append}
+use lib.ListN.{set}
 use lib.Seq.{take_all, take-append-le}
 use Rattle.service_entry.specs.declared.entry.ServiceEntry.{ServiceEntry}
 use Rattle.service_entries.proofs.SectionEntries.{filled_more}
 use Rattle.service_entries.specs.Entries.{filled}
 use Rattle.service_list.specs.declared.list.ServiceInfo.{ServiceInfo}
-use Rattle.tape.specs.Lists.{with_one_more, entries_at, entries_from, entry_at, held_by, last_of, list_counting, list_word}
-use Rattle.tape.specs.Words.{mark_at, nowhere}
-use Rattle.tape.specs.declared.lists.EntryWord.{EntryWord}
+use Rattle.tape.specs.Lists.{with_one_more, entries_at, entries_from, entry_at, list_counting}
+use Rattle.tape.specs.Words.{◌>>=◌, mark_at, word}
+use Rattle.tape.specs.declared.words.Word.{Word}
 
 longer : (es : List ServiceEntry) (e : ServiceEntry) → length es + 1 ≡ length (es ++ e ∷ [])
 longer es e = simp length-append (omega arith)
@@ -39,6 +66,20 @@ module _ (start change complete : Bool) where
       record { start = start; change = change; complete = complete; services = s; count = n })
       (places_more es e (ltb (length es) 15) refl) (longer es e)
 
+-- entries behind others
+abbrev behind : List ServiceEntry → Option (Word (List ServiceEntry)) → Option (Word (List ServiceEntry))
+behind before rest = rest >>= λ (es : Word (List ServiceEntry)). Some (word (before ++ es.value) es.next)
+
+behind_none : (rest : Option (Word (List ServiceEntry))) → rest ≡ behind [] rest
+behind_none None = refl
+behind_none (Some es) = refl
+
+behind_more : (before : List ServiceEntry) (e : ServiceEntry) (rest : Option (Word (List ServiceEntry)))
+    → behind before (behind (e ∷ []) rest) ≡ behind (before ++ e ∷ []) rest
+behind_more before e None = refl
+behind_more before e (Some es) =
+    ap (λ (l : List ServiceEntry). Some (word l es.next)) (sym (append_assoc before (e ∷ []) es.value))
+
 -- the entries before a place are held, and those from there on are left
 pub record EntriesRead (line : List ℕ) (from : ℕ) (start change complete : Bool)
     (l : ServiceInfo) (at k : ℕ) : Type 0 where
@@ -46,20 +87,23 @@ pub record EntriesRead (line : List ℕ) (from : ℕ) (start change complete : B
   pub within : k ≤ length line
   pub few : length before ≡ k
   pub held : l ≡ list_counting start change complete before
-  pub all : held_by (entries_from (length line) line from) ≡ before ++ held_by (entries_from (length line - k) line at)
-  pub place : last_of from (entries_from (length line) line from) ≡ last_of at (entries_from (length line - k) line at)
+  pub all : entries_from (length line) line from ≡ behind before (entries_from (length line - k) line at)
 
 module _ (line : List ℕ) (at : ℕ) where
-  entries_stop : (n : ℕ) → mark_at line at 59 ≡ nowhere → entries_from n line at ≡ []
+  entries_stop : (n : ℕ) → mark_at line at 59 ≡ None → entries_from n line at ≡ Some (word [] at)
   unfolding entries_from
   entries_stop zero h = refl
-  entries_stop (suc n) h = simp (eq-eqb _ _ h)
+  entries_stop (suc n) h = rw (h, entries_from)
 
-  entries_more : (n : ℕ) → (mark_at line at 59 ≡ nowhere → ⊥)
-      → entries_from (suc n) line at
-      ≡ entry_at line (mark_at line at 59) ∷ entries_from n line (entry_at line (mark_at line at 59)).next
-  unfolding entries_from
-  entries_more n h = simp (ne_eqb _ _ h)
+  module _ (n to : ℕ) (marked : mark_at line at 59 ≡ Some to) where
+    entries_bad : entry_at line to ≡ None → entries_from (suc n) line at ≡ None
+    unfolding entries_from
+    entries_bad h = rw (marked, h, entries_from)
+
+    entries_more : (w : Word ServiceEntry) → entry_at line to ≡ Some w
+        → entries_from (suc n) line at ≡ behind (w.value ∷ []) (entries_from n line w.next)
+    unfolding entries_from
+    entries_more w h = rw (marked, h, entries_from)
 
 pub entries_none : (line : List ℕ) (from : ℕ) (start change complete : Bool) (l : ServiceInfo)
     → l ≡ list_counting start change complete []
@@ -71,8 +115,7 @@ entries_none line from start change complete l e =
       within = omega arith;
       few = refl;
       held = e;
-      all = rw same;
-      place = rw same;
+      all = rw same (behind_none (entries_from (length line) line from));
     }
 
 module _ {line : List ℕ} {from : ℕ} {start change complete : Bool} {l : ServiceInfo} {at k : ℕ}
@@ -82,45 +125,47 @@ module _ {line : List ℕ} {from : ℕ} {start change complete : Bool} {l : Serv
   unfolding list_counting
   entries_count = rw so_far.held so_far.few
 
-  pub entries_next : (behind : ℕ) (word : EntryWord) (more : ServiceInfo) → k < length line
-      → behind ≡ mark_at line at 59
-      → (behind ≡ nowhere → ⊥)
-      → word ≡ entry_at line behind → more ≡ with_one_more l word.entry
-      → EntriesRead line from start change complete more word.next (k + 1)
-  unfolding last_of
-  entries_next behind word more h b n w m =
-      let left : ℕ = length line - (k + 1) in
-      let room : length line - k ≡ suc left = omega arith in
-      let step : entries_from (length line - k) line at ≡ word ∷ entries_from left line word.next =
-      rw (room, w, b) (entries_more line at left (rw b at n)) in
-      record {
-        before = so_far.before ++ word.entry ∷ [];
-        within = omega arith;
-        few = simp length-append (omega (arith, so_far.few));
-        held =
-            m
-            ∙ ap (λ (s : ServiceInfo). with_one_more s word.entry) so_far.held
-            ∙ counted_more start change complete so_far.before word.entry;
-        all =
-            so_far.all
-            ∙ ap (λ (ws : List EntryWord). so_far.before ++ held_by ws) step
-            ∙ sym (append_assoc so_far.before (word.entry ∷ []) (held_by (entries_from left line word.next)));
-        place = so_far.place ∙ ap (last_of at) step;
-      }
+  module _ (to : ℕ) (within : k < length line) (marked : Some to ≡ mark_at line at 59) where
+    pub entries_next : (w : Word ServiceEntry) (more : ServiceInfo) → Some w ≡ entry_at line to
+        → more ≡ with_one_more l w.value
+        → EntriesRead line from start change complete more w.next (k + 1)
+    entries_next w more e m =
+        let left : ℕ = length line - (k + 1) in
+        let room : length line - k ≡ suc left = omega arith in
+        let step : entries_from (length line - k) line at ≡ behind (w.value ∷ []) (entries_from left line w.next) =
+        rw room (entries_more line at left to (sym marked) w (sym e)) in
+        record {
+          before = so_far.before ++ w.value ∷ [];
+          within = omega arith;
+          few = simp length-append (omega (arith, so_far.few));
+          held =
+              m
+              ∙ ap (λ (s : ServiceInfo). with_one_more s w.value) so_far.held
+              ∙ counted_more start change complete so_far.before w.value;
+          all =
+              so_far.all
+              ∙ ap (behind so_far.before) step
+              ∙ behind_more so_far.before w.value (entries_from left line w.next);
+        }
 
-  entries_all : entries_from (length line - k) line at ≡ [] → list_word l at ≡ entries_at line from start change complete
-  unfolding entries_at last_of
-  entries_all none =
-      let es : held_by (entries_from (length line) line from) ≡ so_far.before =
-      so_far.all ∙ ap (λ (ws : List EntryWord). so_far.before ++ held_by ws) none ∙ append-nil so_far.before in
-      ap₂ list_word (so_far.held ∙ ap (list_counting start change complete) (sym es))
-      (sym (so_far.place ∙ ap (last_of at) none))
+    pub entries_malformed : None ≡ entry_at line to → None ≡ entries_at line from start change complete
+    unfolding entries_at
+    entries_malformed e =
+        let left : ℕ = length line - (k + 1) in
+        let room : length line - k ≡ suc left = omega arith in
+        let step : entries_from (length line - k) line at ≡ None =
+        rw room (entries_bad line at left to (sym marked) (sym e)) in
+        rw (so_far.all, step)
 
-  pub entries_stopped : (behind : ℕ) → behind ≡ mark_at line at 59 → behind ≡ nowhere
-      → list_word l at ≡ entries_at line from start change complete
-  entries_stopped behind b n = entries_all (entries_stop line at (length line - k) (rw b at n))
+  entries_all : entries_from (length line - k) line at ≡ Some (word [] at)
+      → Some (word l at) ≡ entries_at line from start change complete
+  unfolding entries_at
+  entries_all none = rw (so_far.all, none, append-nil so_far.before, so_far.held)
 
-  pub entries_full : length line ≤ k → list_word l at ≡ entries_at line from start change complete
+  pub entries_stopped : None ≡ mark_at line at 59 → Some (word l at) ≡ entries_at line from start change complete
+  entries_stopped e = entries_all (entries_stop line at (length line - k) (sym e))
+
+  pub entries_full : length line ≤ k → Some (word l at) ≡ entries_at line from start change complete
   unfolding entries_from
   entries_full h =
       let none : length line - k ≡ 0 = omega arith in

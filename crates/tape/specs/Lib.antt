@@ -3,3 +3,4 @@ pub mod Lists
 pub mod Held
 pub mod Lent
 pub mod State
+pub mod Outcome

@@ -1,7 +1,8 @@
 -- What goes from line to line of a tape.
+use Rattle.std.specs.Prelude.{Some}
 use Rattle.reader.specs.Shown.{fresh_reader}
 use Rattle.tape.specs.declared.operation.State.{State}
 
--- before the first line: nothing of it, nothing to print, a new reader
+-- before the first line: nothing of it, a new reader
 abbrev pub first_state : State
-first_state = record { length = 0; at = 0; parser = fresh_reader }
+first_state = record { length = Some 0; parser = fresh_reader }

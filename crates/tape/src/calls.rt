@@ -1,97 +1,86 @@
 // The operation T: calls on a list that starts empty.
-use crate::operation::malformed;
-use crate::print::word;
-use crate::words::NOWHERE;
+use crate::print::Output;
+use crate::words::Word;
 use crate::{lists, show, words};
 use basis::Answer;
 use service_list::{ServiceEntry, ServiceInfo, ServiceInfoAdded};
 
-// A call as the tape spells it: its first letter, with a flag or an entry where it has one.
 #[derive(Clone, Copy)]
-struct CallWord {
-    letter: u8,
-    on: bool,
-    entry: ServiceEntry,
-    next: usize,
-}
-
-// What a call leaves, and where the printing goes on.
-#[derive(Clone, Copy)]
-struct Made {
-    list: ServiceInfo,
-    at: usize,
+enum Call {
+    SetStart(bool),
+    SetChange(bool),
+    SetComplete(bool),
+    Clear,
+    Add(ServiceEntry),
 }
 
 // The whole line is looked at first, so that a malformed one prints nothing else.
-pub fn calls(rt: &(impl Print + Eprint), line: &[u8], out: &mut [u8], at: usize) -> usize {
-    let first = words::operands(line);
+pub fn calls(line: &[u8], out: &mut Output<impl Print + Eprint>) -> Option<()> {
+    let first = words::operands(line)?;
     if !well_formed(line, first) {
-        return malformed(rt, out, at);
+        return None;
     }
-    let letter = word(rt, out, at, b"T");
-    let made = make(rt, line, first, out, letter);
-    let list = made.list;
-    let named = word(rt, out, made.at, b" len ");
-    show::answer(rt, out, named, list.byte_len())
+    out.word(b"T");
+    let list = make(line, first, out);
+    out.word(b" len ");
+    show::answer(out, list.byte_len());
+    Some(())
 }
 
-// A line has fewer calls than bytes.
+// A line has fewer calls than bytes. No `while let`: it would want a measure, that each call ends past its start.
 fn well_formed(line: &[u8], first: usize) -> bool {
     let mut at = first;
-    for k in 0..line.len() {
-        let found = call(line, at);
+    for _ in 0..line.len() {
+        let Some(found) = call_at(line, at) else {
+            return false;
+        };
         if words::ends(line, found.next) {
             return true;
         }
-        at = words::mark(line, found.next, b',');
-        if at == NOWHERE {
+        let Some(next) = words::mark(line, found.next, b',') else {
             return false;
-        }
+        };
+        at = next;
     }
     false
 }
 
-fn make(rt: &(impl Print + Eprint), line: &[u8], first: usize, out: &mut [u8], to: usize) -> Made {
-    let list = ServiceInfo::default();
-    let mut made = Made { list, at: to };
+// Makes the calls of a line that is well formed, in the same loop, and gives the list that they leave.
+fn make(line: &[u8], first: usize, out: &mut Output<impl Print + Eprint>) -> ServiceInfo {
+    let mut list = ServiceInfo::default();
     let mut at = first;
-    for k in 0..line.len() {
-        let found = call(line, at);
-        made = one(rt, found, made, out);
-        at = words::mark(line, found.next, b',');
-        if at == NOWHERE {
-            return made;
-        }
+    for _ in 0..line.len() {
+        let Some(found) = call_at(line, at) else {
+            return list;
+        };
+        list = one(found.value, list, out);
+        let Some(next) = words::mark(line, found.next, b',') else {
+            return list;
+        };
+        at = next;
     }
-    made
+    list
 }
 
 // Makes one call and prints its answer and the list.
-fn one(rt: &(impl Print + Eprint), call: CallWord, made: Made, out: &mut [u8]) -> Made {
-    let before = made.list;
-    let added = answered(call, before);
-    let answer = added.answer;
-    let list = added.list;
-    let parted = word(rt, out, made.at, b" ");
-    let shown = show::answer(rt, out, parted, answer);
-    let parted2 = word(rt, out, shown, b" ");
-    let listed = show::list(rt, out, parted2, list);
-    Made {
-        list,
-        at: word(rt, out, listed, b" |"),
-    }
+fn one(call: Call, list: ServiceInfo, out: &mut Output<impl Print + Eprint>) -> ServiceInfo {
+    let added = answered(call, list);
+    out.word(b" ");
+    show::answer(out, added.answer);
+    out.word(b" ");
+    show::list(out, added.list);
+    out.word(b" |");
+    added.list
 }
 
 // A call that has no answer of its own answers 0.
-fn answered(call: CallWord, list: ServiceInfo) -> ServiceInfoAdded {
-    let letter = call.letter;
-    let entry = call.entry;
-    match letter {
-        b's' => without_answer(list.set_start(call.on)),
-        b'c' => without_answer(list.set_change(call.on)),
-        b'k' => without_answer(list.set_complete(call.on)),
-        b'x' => without_answer(list.clear_services()),
-        _ => list.add_service(entry),
+fn answered(call: Call, list: ServiceInfo) -> ServiceInfoAdded {
+    match call {
+        Call::SetStart(on) => without_answer(list.set_start(on)),
+        Call::SetChange(on) => without_answer(list.set_change(on)),
+        Call::SetComplete(on) => without_answer(list.set_complete(on)),
+        Call::Clear => without_answer(list.clear_services()),
+        Call::Add(entry) => list.add_service(entry),
     }
 }
 
@@ -102,37 +91,28 @@ fn without_answer(list: ServiceInfo) -> ServiceInfoAdded {
     }
 }
 
-fn call(line: &[u8], at: usize) -> CallWord {
-    if line.len() <= at {
-        return plain(b'?', false, NOWHERE);
-    }
-    let letter = line[at];
-    match letter {
-        b's' | b'c' | b'k' => setter(letter, words::flag(line, at + 1)),
-        b'x' => plain(letter, false, at + 1),
-        _ => addition(letter, lists::entry(line, at)),
-    }
-}
-
-fn setter(letter: u8, flag: words::FlagWord) -> CallWord {
-    plain(letter, flag.on, flag.next)
-}
-
-fn plain(letter: u8, on: bool, next: usize) -> CallWord {
-    CallWord {
-        letter,
-        on,
-        entry: ServiceEntry::FILLER,
-        next,
-    }
-}
-
-fn addition(letter: u8, word: lists::EntryWord) -> CallWord {
-    let entry = word.entry;
-    CallWord {
-        letter,
-        on: false,
-        entry,
-        next: word.next,
+// A call as the tape spells it: a letter, with a flag where it sets one, or an entry.
+fn call_at(line: &[u8], at: usize) -> Option<Word<Call>> {
+    match line.get(at)? {
+        b's' => words::flag(line, at + 1).map(|on| Word {
+            value: Call::SetStart(on.value),
+            next: on.next,
+        }),
+        b'c' => words::flag(line, at + 1).map(|on| Word {
+            value: Call::SetChange(on.value),
+            next: on.next,
+        }),
+        b'k' => words::flag(line, at + 1).map(|on| Word {
+            value: Call::SetComplete(on.value),
+            next: on.next,
+        }),
+        b'x' => Some(Word {
+            value: Call::Clear,
+            next: at + 1,
+        }),
+        _ => lists::entry(line, at).map(|entry| Word {
+            value: Call::Add(entry.value),
+            next: entry.next,
+        }),
     }
 }

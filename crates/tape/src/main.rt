@@ -17,17 +17,8 @@ mod show;
 mod words;
 mod write;
 
-ghost use Rattle.std.specs.Prelude.{◌≤◌, length};
-
 use crate::operation::State;
-use crate::print::FAILED;
-
-// What a part of the input leaves, and whether it was the last.
-#[derive(Clone, Copy)]
-struct PartRun {
-    state: State,
-    last: bool,
-}
+use crate::print::Output;
 
 // All buffers are made here, once, and lent from here on: a part of the input, a line, the bytes that a line gives, the
 // bytes that a line lends, and what is to be printed. A longer line than the buffer's is malformed.
@@ -36,174 +27,101 @@ fn main(rt: HostRuntime) {
     let mut line = [0u8; 65536];
     let mut given = [0u8; 4096];
     let mut lent = [0u8; 4096];
-    let mut out = [0u8; 16384];
+    let mut out = Output::new(&rt);
     tape(&rt, &mut part, &mut line, &mut given, &mut lent, &mut out);
 }
 
 fn tape(
-    rt: &(impl Input + Print + Eprint),
+    rt: &(impl Input + Eprint),
     part: &mut [u8],
     line: &mut [u8],
     given: &mut [u8],
     lent: &mut [u8],
-    out: &mut [u8],
+    out: &mut Output<impl Print + Eprint>,
 ) {
-    let s = parts(rt, part, line, given, lent, out, State::first());
-    let last = ended(rt, line, given, lent, out, s);
-    print::flush(rt, out, last.at);
+    let last = parts(rt, part, line, given, lent, out, State::first());
+    // The last line needs no newline.
+    if last.length != Some(0) {
+        one(line, given, lent, out, last);
+    }
+    out.flush();
 }
 
-// Nothing says that the input ends, so the turns are counted down from a number that no run uses up.
+// Reads part by part and runs the lines of each, until the input has ended, the read fails or a write has failed. Nothing
+// says that the input ends, so there are as many turns as no run uses up.
 fn parts(
-    rt: &(impl Input + Print + Eprint),
+    rt: &(impl Input + Eprint),
     part: &mut [u8],
     line: &mut [u8],
     given: &mut [u8],
     lent: &mut [u8],
-    out: &mut [u8],
+    out: &mut Output<impl Print + Eprint>,
     first: State,
 ) -> State {
     let mut s = first;
-    let mut turns = u64::MAX;
-    while turns > 0 {
-        let done = turn(rt, part, line, given, lent, out, s);
-        s = done.state;
-        if done.last {
+    for _ in 0..u64::MAX {
+        match streams::read_part(rt, part) {
+            Ok(0) => return s,
+            Ok(count) => s = lines(&part[..count], line, given, lent, out, s),
+            Err(_) => return unread(s),
+        }
+        if out.has_failed() {
             return s;
         }
-        turns -= 1;
     }
     s
 }
 
-// Reads a part and runs its lines. It is the last where the input has ended, the read fails or a write has failed.
-fn turn(
-    rt: &(impl Input + Print + Eprint),
-    part: &mut [u8],
-    line: &mut [u8],
-    given: &mut [u8],
-    lent: &mut [u8],
-    out: &mut [u8],
-    s: State,
-) -> PartRun {
-    let read = streams::read_part(rt, part);
-    let count = read.count;
-    if count == 0 {
-        return PartRun {
-            state: unread(s, read.failed),
-            last: true,
-        };
-    }
-    let state = lines(rt, &part[..count], line, given, lent, out, s);
-    PartRun {
-        state,
-        last: state.at == FAILED,
-    }
-}
-
 // Where a read fails, what is there of a line is none: its rest is not known.
-fn unread(mut s: State, failed: bool) -> State {
-    if failed {
-        s.length = 0;
-    }
+fn unread(mut s: State) -> State {
+    s.length = Some(0);
     s
 }
 
 // Runs every line that ends in this part of the input, and keeps what is left.
 fn lines(
-    rt: &(impl Print + Eprint),
     part: &[u8],
     line: &mut [u8],
     given: &mut [u8],
     lent: &mut [u8],
-    out: &mut [u8],
+    out: &mut Output<impl Print + Eprint>,
     first: State,
 ) -> State {
     let mut s = first;
-    let mut at = 0;
-    while at < part.len() {
-        let end = line_end(part, at);
-        s.length = kept(line, s.length, &part[at..end]);
-        if end == part.len() {
-            return s;
+    for piece in part.split_inclusive(|byte| *byte == b'\n') {
+        match piece.strip_suffix(b"\n") {
+            Some(end) => {
+                s.length = kept(line, s.length, end);
+                s = one(line, given, lent, out, s);
+            }
+            None => s.length = kept(line, s.length, piece),
         }
-        at = end + 1;
-        s = one(rt, line, given, lent, out, s);
     }
     s
 }
 
-// The place of the first newline from a place on, or the length.
-fn line_end(part: &[u8], from: usize) -> usize
-    requires { from ≤ length part.now }
-    ensures lower_bound { from ≤ result }
-    ensures upper_bound { result ≤ length part.now }
-{
-    let mut at = from;
-    while at < part.len() {
-        if part[at] == b'\n' {
-            return at;
-        }
-        at += 1;
-    }
-    at
-}
-
-// Puts a piece behind what is there of the line, and gives the length. One over the buffer's is that of a line too
-// long to be kept.
-fn kept(line: &mut [u8], length: usize, piece: &[u8]) -> usize {
-    let room = line.len();
-    if room < length {
-        return length;
-    }
-    if room - length < piece.len() {
-        return room + 1;
+// Puts a piece behind what is there of the line, and gives the length, or none for a line too long to be kept.
+fn kept(line: &mut [u8], length: Option<usize>, piece: &[u8]) -> Option<usize> {
+    let length = length?;
+    let end = length.checked_add(piece.len())?;
+    if line.len() < end {
+        return None;
     }
     basis::put(line, length, piece);
-    length + piece.len()
-}
-
-// The last line needs no newline.
-fn ended(
-    rt: &(impl Print + Eprint),
-    line: &[u8],
-    given: &mut [u8],
-    lent: &mut [u8],
-    out: &mut [u8],
-    s: State,
-) -> State {
-    if s.length == 0 {
-        return s;
-    }
-    one(rt, line, given, lent, out, s)
+    Some(end)
 }
 
 // Runs the line that is kept, and begins the next.
 fn one(
-    rt: &(impl Print + Eprint),
     line: &[u8],
     given: &mut [u8],
     lent: &mut [u8],
-    out: &mut [u8],
-    s: State,
+    out: &mut Output<impl Print + Eprint>,
+    mut s: State,
 ) -> State {
-    let mut next = answer(rt, line, given, lent, out, s);
-    next.length = 0;
-    next.at = print::byte(rt, out, next.at, b'\n');
-    next
-}
-
-fn answer(
-    rt: &(impl Print + Eprint),
-    line: &[u8],
-    given: &mut [u8],
-    lent: &mut [u8],
-    out: &mut [u8],
-    s: State,
-) -> State {
-    let length = s.length;
-    if line.len() < length {
-        return s.malformed(rt, out);
-    }
-    operation::run(rt, &line[0..length], given, lent, out, s)
+    let kept = s.length.and_then(|length| line.get(..length));
+    operation::run(kept, given, lent, out, &mut s.parser);
+    out.byte(b'\n');
+    s.length = Some(0);
+    s
 }

@@ -1,50 +1,38 @@
 // The operations A, B and C: a packet, a section and an entry, read for the answer and its place.
-use crate::operation::State;
-use crate::print::{decimal, word};
+use crate::print::Output;
 use crate::show;
-use basis::Answer;
+use basis::{Answer, Refused};
 use reader::CDPParser;
 use report::fill;
 use service_list::{ServiceEntry, ServiceInfo};
 
 // The reader is a new one, and the tape's own stays as it is.
-pub fn packet(
-    rt: &(impl Print + Eprint),
-    packet: &[u8],
-    lent: &mut [u8],
-    out: &mut [u8],
-    mut s: State,
-) -> State {
+pub fn packet(packet: &[u8], lent: &mut [u8], out: &mut Output<impl Print + Eprint>) {
     fill(lent);
-    let fresh = CDPParser::new();
-    let read = fresh.parse(packet, lent);
-    let answer = read.answer;
-    s.at = placed(rt, out, s.at, b"A ", answer, read.place);
-    s
+    let read = CDPParser::new().parse(packet, lent);
+    placed(out, b"A ", read.answer, read.place);
 }
 
-pub fn section(rt: &(impl Print + Eprint), bytes: &[u8], out: &mut [u8], at: usize) -> usize {
-    let read = ServiceInfo::parse(bytes);
-    let answer = read.answer;
-    placed(rt, out, at, b"B ", answer, read.place)
+pub fn section(bytes: &[u8], out: &mut Output<impl Print + Eprint>) {
+    alone(out, b"B ", ServiceInfo::parse(bytes).err());
 }
 
-pub fn entry(rt: &(impl Print + Eprint), bytes: [u8; 6], out: &mut [u8], at: usize) -> usize {
-    let read = ServiceEntry::parse(bytes);
-    let answer = read.answer;
-    placed(rt, out, at, b"C ", answer, read.place)
+pub fn entry(bytes: [u8; 6], out: &mut Output<impl Print + Eprint>) {
+    alone(out, b"C ", ServiceEntry::parse(bytes).err());
 }
 
-fn placed(
-    rt: &(impl Print + Eprint),
-    out: &mut [u8],
-    at: usize,
-    letter: &[u8],
-    answer: Answer,
-    place: usize,
-) -> usize {
-    let named = word(rt, out, at, letter);
-    let answered = show::answer(rt, out, named, answer);
-    let marked = word(rt, out, answered, b" at ");
-    decimal(rt, out, marked, place as u64)
+// Done is at 0.
+fn alone(out: &mut Output<impl Print + Eprint>, letter: &[u8], refused: Option<Refused>) {
+    let place = match refused {
+        Some(refused) => refused.place,
+        None => 0,
+    };
+    placed(out, letter, show::outcome(refused), place);
+}
+
+fn placed(out: &mut Output<impl Print + Eprint>, letter: &[u8], answer: Answer, place: usize) {
+    out.word(letter);
+    show::answer(out, answer);
+    out.word(b" at ");
+    out.decimal(place as u64);
 }

@@ -1,97 +1,115 @@
-// Bytes, words and numbers into the output buffer, which is written out when it is full. Each function takes the place of
-// the next byte and gives the place behind what it put.
+// Bytes, words and numbers into the output buffer, which is written out when it is full.
+ghost use Rattle.std.specs.Prelude.{◌≡◌, is_some, not, replicate};
+
 use explain::Reason;
-use text::{flag, number};
 use text_why::WhyText;
 
-// The place of the next byte once the buffer could not be written out. It lies behind any buffer's end, so that nothing
-// more is put, written or said.
-pub const FAILED: usize = usize::MAX;
-
-pub fn byte(rt: &(impl Print + Eprint), out: &mut [u8], at: usize, byte: u8) -> usize {
-    text::byte(out, room(rt, out, at, 1), byte)
+// What is still to be written to standard output.
+#[derive(Drop)]
+pub struct Output<'a, R> {
+    rt: &'a R,
+    buffer: [u8; 16384],
+    // The place of the next byte, or none once the buffer could not be written out: then nothing more is put, written or
+    // said.
+    at: Option<usize>,
 }
 
-pub fn word(rt: &(impl Print + Eprint), out: &mut [u8], at: usize, text: &[u8]) -> usize {
-    if out.len() < text.len() {
-        return straight(rt, out, at, text);
-    }
-    text::word(out, room(rt, out, at, text.len()), text)
-}
-
-// A word that is longer than the buffer is written by itself, behind what is there.
-fn straight(rt: &(impl Print + Eprint), out: &[u8], at: usize, text: &[u8]) -> usize {
-    if flush(rt, out, at) == FAILED {
-        return FAILED;
-    }
-    emptied(streams::write(rt, text))
-}
-
-// Any number has 20 digits at most.
-pub fn decimal(rt: &(impl Print + Eprint), out: &mut [u8], at: usize, n: u64) -> usize {
-    number(out, room(rt, out, at, 20), b"", n)
-}
-
-pub fn bit(rt: &(impl Print + Eprint), out: &mut [u8], at: usize, on: bool) -> usize {
-    flag(out, room(rt, out, at, 1), b"", on)
-}
-
-// A dash for no bytes.
-pub fn bytes(rt: &(impl Print + Eprint), out: &mut [u8], at: usize, shown: &[u8]) -> usize {
-    if shown.len() == 0 {
-        return byte(rt, out, at, b'-');
-    }
-    hex(rt, out, at, shown)
-}
-
-// Two digits for each byte.
-pub fn hex(rt: &(impl Print + Eprint), out: &mut [u8], from: usize, shown: &[u8]) -> usize {
-    let mut at = from;
-    for k in 0..shown.len() {
-        at = two(rt, out, at, shown[k]);
-    }
-    at
-}
-
-fn two(rt: &(impl Print + Eprint), out: &mut [u8], at: usize, shown: u8) -> usize {
-    text::hex(out, room(rt, out, at, 2), b"", shown)
-}
-
-// The bytes that a test found: two at most, and a space.
-pub fn found(
-    rt: &(impl Print + Eprint),
-    out: &mut [u8],
-    at: usize,
-    packet: &[u8],
-    place: usize,
-    reason: Reason,
-) -> usize {
-    text_values::found(out, room(rt, out, at, 5), packet, place, reason)
-}
-
-// What a test takes.
-pub fn allowed(rt: &(impl Print + Eprint), out: &mut [u8], at: usize, reason: Reason) -> usize {
-    text_values::allowed(out, room(rt, out, at, WhyText::MOST_ALLOWED), reason)
-}
-
-// Writes the buffer out where fewer than so many bytes are left, so that what is put next is not cut.
-fn room(rt: &(impl Print + Eprint), out: &[u8], at: usize, count: usize) -> usize {
-    if at <= out.len() {
-        if out.len() - at < count {
-            return flush(rt, out, at);
+impl<'a, R: Print + Eprint> Output<'a, R> {
+    pub fn new(rt: &'a R) -> Self
+        ensures rt { result.rt.now ≡ rt.now }
+        ensures buffer { result.buffer ≡ replicate 16384 0 }
+        ensures at { result.at ≡ Some 0 }
+    {
+        Self {
+            rt,
+            buffer: [0; 16384],
+            at: Some(0),
         }
     }
-    at
-}
 
-// Writes out what is there, and the next byte goes to the buffer's start.
-pub fn flush(rt: &(impl Print + Eprint), out: &[u8], at: usize) -> usize {
-    if out.len() < at {
-        return FAILED;
+    pub fn has_failed(&self) -> bool
+        ensures { result ≡ not (is_some self.now.at) }
+    {
+        self.at.is_none()
     }
-    emptied(streams::write_first(rt, out, at))
-}
 
-fn emptied(written: bool) -> usize {
-    if written { 0 } else { FAILED }
+    pub fn byte(&mut self, byte: u8) {
+        let at = self.room(1);
+        self.at = at.map(|at| text::byte(&mut self.buffer, at, byte));
+    }
+
+    pub fn word(&mut self, word: &[u8]) {
+        if self.buffer.len() < word.len() {
+            self.straight(word);
+        } else {
+            let at = self.room(word.len());
+            self.at = at.map(|at| text::word(&mut self.buffer, at, word));
+        }
+    }
+
+    // A word that is longer than the buffer is written by itself, behind what is there.
+    fn straight(&mut self, word: &[u8]) {
+        self.flush();
+        if self.at.is_some() {
+            self.at = streams::write(self.rt, word).ok().map(|()| 0);
+        }
+    }
+
+    // Any number has 20 digits at most.
+    pub fn decimal(&mut self, n: u64) {
+        let at = self.room(20);
+        self.at = at.map(|at| text::number(&mut self.buffer, at, b"", n));
+    }
+
+    pub fn bit(&mut self, on: bool) {
+        let at = self.room(1);
+        self.at = at.map(|at| text::flag(&mut self.buffer, at, b"", on));
+    }
+
+    // A dash for no bytes.
+    pub fn bytes(&mut self, shown: &[u8]) {
+        if shown.is_empty() {
+            self.byte(b'-');
+        }
+        self.hex(shown);
+    }
+
+    // Two digits for each byte.
+    pub fn hex(&mut self, shown: &[u8]) {
+        for byte in shown {
+            let at = self.room(2);
+            self.at = at.map(|at| text::hex(&mut self.buffer, at, b"", *byte));
+        }
+    }
+
+    // The bytes that a test found: two at most, and a space.
+    pub fn found(&mut self, packet: &[u8], place: usize, reason: Reason) {
+        let at = self.room(5);
+        self.at = at.map(|at| text_values::found(&mut self.buffer, at, packet, place, reason));
+    }
+
+    // What a test takes.
+    pub fn allowed(&mut self, reason: Reason) {
+        let at = self.room(WhyText::MOST_ALLOWED);
+        self.at = at.map(|at| text_values::allowed(&mut self.buffer, at, reason));
+    }
+
+    // The place of the next byte. The buffer is written out where fewer than so many bytes are left, so that what is put next
+    // is not cut.
+    fn room(&mut self, count: usize) -> Option<usize> {
+        let at = self.at?;
+        if self.buffer.len().saturating_sub(at) < count {
+            self.flush();
+        }
+        self.at
+    }
+
+    // Writes out what is there, and the next byte goes to the buffer's start.
+    pub fn flush(&mut self) {
+        if let Some(at) = self.at {
+            self.at = streams::write_first(self.rt, &self.buffer, at)
+                .ok()
+                .map(|()| 0);
+        }
+    }
 }

@@ -1,73 +1,61 @@
 // The operations S and E: a section and an entry, read from bytes. The words of B and C are the same, and Y has those of S.
-use crate::operation::malformed;
-use crate::print::word;
+use crate::print::Output;
 use crate::{places, reasons, show, words};
 use service_list::{ServiceEntry, ServiceInfo};
 
 pub fn bytes(
-    rt: &(impl Print + Eprint),
     line: &[u8],
     letter: u8,
     given: &mut [u8],
-    out: &mut [u8],
-    at: usize,
-) -> usize {
-    let found = words::bytes(line, words::operands(line), given);
-    let count = found.count;
-    if !words::ends(line, found.next) {
-        return malformed(rt, out, at);
-    }
-    if given.len() < count {
-        return malformed(rt, out, at);
-    }
+    out: &mut Output<impl Print + Eprint>,
+) -> Option<()> {
+    let bytes = operand(line, given)?;
     match letter {
-        b'Y' => reasons::packet(rt, &given[0..count], out, at),
-        b'B' => places::section(rt, &given[0..count], out, at),
-        _ => section(rt, &given[0..count], out, at),
+        b'Y' => reasons::packet(bytes, out),
+        b'B' => places::section(bytes, out),
+        _ => section(bytes, out),
     }
+    Some(())
 }
 
-fn section(rt: &(impl Print + Eprint), bytes: &[u8], out: &mut [u8], at: usize) -> usize {
+// The bytes of a line's one word.
+fn operand<'a>(line: &[u8], given: &'a mut [u8]) -> Option<&'a [u8]> {
+    let found = words::bytes(line, words::operands(line)?, given)?;
+    if !words::ends(line, found.next) {
+        return None;
+    }
+    given.get(..found.value)
+}
+
+fn section(bytes: &[u8], out: &mut Output<impl Print + Eprint>) {
     let read = ServiceInfo::parse(bytes);
-    let answer = read.answer;
-    let list = read.list;
-    let letter = word(rt, out, at, b"S ");
-    let answered = show::answer(rt, out, letter, answer);
-    let named = word(rt, out, answered, b" svc ");
-    show::list(rt, out, named, list)
+    out.word(b"S ");
+    show::answer(out, show::outcome(read.err()));
+    out.word(b" svc ");
+    // A refusal gives no list: the empty one is printed.
+    show::list(out, read.unwrap_or(ServiceInfo::default()));
 }
 
 pub fn entry(
-    rt: &(impl Print + Eprint),
     line: &[u8],
     letter: u8,
     given: &mut [u8],
-    out: &mut [u8],
-    at: usize,
-) -> usize {
-    let found = words::bytes(line, words::operands(line), given);
-    if !words::ends(line, found.next) {
-        return malformed(rt, out, at);
-    }
-    if found.count != 6 {
-        return malformed(rt, out, at);
-    }
-    if given.len() < 6 {
-        return malformed(rt, out, at);
-    }
-    let bytes = [given[0], given[1], given[2], given[3], given[4], given[5]];
+    out: &mut Output<impl Print + Eprint>,
+) -> Option<()> {
+    let bytes = <[u8; 6]>::try_from(operand(line, given)?).ok()?;
     if letter == b'C' {
-        return places::entry(rt, bytes, out, at);
+        places::entry(bytes, out);
+    } else {
+        entry_of(bytes, out);
     }
-    entry_of(rt, bytes, out, at)
+    Some(())
 }
 
-fn entry_of(rt: &(impl Print + Eprint), bytes: [u8; 6], out: &mut [u8], at: usize) -> usize {
+fn entry_of(bytes: [u8; 6], out: &mut Output<impl Print + Eprint>) {
     let read = ServiceEntry::parse(bytes);
-    let answer = read.answer;
-    let shown = read.entry;
-    let letter = word(rt, out, at, b"E ");
-    let answered = show::answer(rt, out, letter, answer);
-    let named = word(rt, out, answered, b" entry ");
-    show::entry(rt, out, named, shown)
+    out.word(b"E ");
+    show::answer(out, show::outcome(read.err()));
+    out.word(b" entry ");
+    // Nor an entry: the filler is.
+    show::entry(out, read.unwrap_or(ServiceEntry::FILLER));
 }

@@ -1,83 +1,35 @@
-// The plain words of a tape: marks, numbers, flags and bytes. A place is an index into the line, or NOWHERE once a word
-// was malformed; from there every later word is malformed too.
-ghost use Rattle.std.specs.Prelude.{◌≡◌, ◌+◌, ◌*◌, ◌≤◌, length, drop};
+// The plain words of a tape: marks, numbers, flags and bytes. A place is an index into the line, and a word is `None` where
+// it is malformed.
+ghost use Rattle.std.specs.Prelude.{◌≡◌, ◌+◌, ◌*◌, ◌<◌, ◌≤◌, ◌^◌, length, IfSome, MatchOption};
 ghost use Rattle.tape.specs.Words as Words;
 
-pub const NOWHERE: usize = usize::MAX;
-
+// What a word gives, and the place behind it.
 #[derive(Clone, Copy)]
-pub struct NumberWord {
-    pub value: u32,
+pub struct Word<T> {
+    pub value: T,
     pub next: usize,
-}
-
-impl NumberWord {
-    const MALFORMED: Self = Self {
-        value: 0,
-        next: NOWHERE,
-    };
-}
-
-// Digits, one after the other, with the number that they make.
-#[derive(Clone, Copy)]
-struct DigitsWord {
-    value: u64,
-    next: usize,
-}
-
-#[derive(Clone, Copy)]
-pub struct FlagWord {
-    pub on: bool,
-    pub next: usize,
-}
-
-#[derive(Clone, Copy)]
-pub struct ByteWord {
-    pub value: u8,
-    pub next: usize,
-}
-
-impl ByteWord {
-    const MALFORMED: Self = Self {
-        value: 0,
-        next: NOWHERE,
-    };
-}
-
-// How many bytes a word gave.
-#[derive(Clone, Copy)]
-pub struct BytesWord {
-    pub count: usize,
-    pub next: usize,
-}
-
-impl BytesWord {
-    const MALFORMED: Self = Self {
-        count: 0,
-        next: NOWHERE,
-    };
 }
 
 // The place behind the letter of an operation and its space.
-pub fn operands(line: &[u8]) -> usize
+pub fn operands(line: &[u8]) -> Option<usize>
     ensures { result ≡ Words.operands_of line.now }
 {
     mark(line, 1, b' ')
 }
 
 // The place behind a mark, where the mark is the next byte.
-pub fn mark(line: &[u8], at: usize, byte: u8) -> usize
+#[tactic(auto, unfolding(crate::specs::Words::mark_at))]
+pub fn mark(line: &[u8], at: usize, byte: u8) -> Option<usize>
     ensures { result ≡ Words.mark_at line.now at byte }
 {
-    if at < line.len() {
-        if line[at] == byte {
-            return at + 1;
-        }
+    if *line.get(at)? == byte {
+        Some(at + 1)
+    } else {
+        None
     }
-    NOWHERE
 }
 
-// Whether the line ends here, well formed.
+// Whether the line ends here.
 pub fn ends(line: &[u8], at: usize) -> bool
     ensures { result ≡ Words.ends_at line.now at }
 {
@@ -85,150 +37,125 @@ pub fn ends(line: &[u8], at: usize) -> bool
 }
 
 // A decimal number up to `most`.
-pub fn number(line: &[u8], at: usize, most: u32) -> NumberWord
-    ensures { result ≡ Words.number_at line.now at most }
+pub fn number(line: &[u8], at: usize, most: u32) -> Option<Word<u32>>
+    ensures value { result ≡ Words.number_at line.now at most }
+    ensures bound { IfSome result (λ word. word.value ≤ most) }
 {
-    let found = digits(line, at);
-    if found.next == at {
-        return NumberWord::MALFORMED;
+    let (_, rest) = line.split_at_checked(at)?;
+    let found = digits(rest)?;
+    if found.next == 0 {
+        return None;
     }
-    if (most as u64) < found.value {
-        return NumberWord::MALFORMED;
+    if most < found.value {
+        return None;
     }
-    NumberWord {
-        value: found.value as u32,
-        next: found.next,
-    }
+    Some(Word {
+        value: found.value,
+        next: at + found.next,
+    })
 }
 
 // A decimal number that fits a byte.
-pub fn small(line: &[u8], at: usize) -> ByteWord
+pub fn small(line: &[u8], at: usize) -> Option<Word<u8>>
     ensures { result ≡ Words.small_at line.now at }
 {
-    let found = number(line, at, 255);
-    ByteWord {
+    let found = number(line, at, 255)?;
+    Some(Word {
         value: found.value as u8,
         next: found.next,
-    }
+    })
 }
 
-fn digits(line: &[u8], from: usize) -> DigitsWord
-    ensures value { result.value ≡ Words.capped (Words.decimal 0 (Words.digits_of (drop from line.now))) }
-    ensures next { result.next ≡ from + length (Words.digits_of (drop from line.now)) }
+// The number that the digits make with which these bytes begin, if it fits, and how many digits they are.
+#[tactic(auto, using(crate::proofs::WordReads::digits_stopped, crate::proofs::WordReads::digits_over, crate::proofs::WordReads::digits_ended))]
+fn digits(bytes: &[u8]) -> Option<Word<u32>>
+    ensures { MatchOption result (2 ^ 32 ≤ Words.decimal 0 (Words.digits_of bytes.now)) (λ word.
+        (word.value ≡ Words.decimal 0 (Words.digits_of bytes.now)) × (word.next ≡ length (Words.digits_of bytes.now))) }
 {
-    let mut value = 0;
-    let mut at = from;
-    while at < line.len() {
-        let digit = digit_of(line[at]);
-        if 9 < digit {
-            return DigitsWord { value, next: at };
+    let mut value: u32 = 0;
+    for (k, byte) in bytes.iter().enumerate() {
+        if !byte.is_ascii_digit() {
+            return Some(Word { value, next: k });
         }
-        value = grown(value, digit);
-        at += 1;
+        value = value.checked_mul(10)?.checked_add(u32::from(*byte - b'0'))?;
     }
-    DigitsWord { value, next: at }
+    Some(Word {
+        value,
+        next: bytes.len(),
+    })
 }
 
-// A value that does not fit 32 bits stays at the first that does not, so that it never wraps, however long the word is.
-fn grown(value: u64, digit: u8) -> u64
-    requires { value ≤ 4294967296 }
-    ensures { result ≡ Words.capped (value * 10 + digit) }
-{
-    let longer = value * 10 + digit as u64;
-    if longer < 0x1_0000_0000 {
-        longer
-    } else {
-        0x1_0000_0000
-    }
-}
-
-// A digit's value, or 16 for what is none.
-fn digit_of(byte: u8) -> u8
-    ensures { result ≡ Words.digit_value byte }
+#[tactic(auto, unfolding(crate::specs::Words::digit_value))]
+fn digit_of(byte: u8) -> Option<u8>
+    ensures value { result ≡ Words.digit_value byte }
+    ensures bound { IfSome result (λ digit. digit < 16) }
 {
     match byte {
-        b'0'..=b'9' => byte - b'0',
-        b'a'..=b'f' => byte - b'a' + 10,
-        _ => 16,
+        b'0'..=b'9' => Some(byte - b'0'),
+        b'a'..=b'f' => Some(byte - b'a' + 10),
+        _ => None,
     }
 }
 
-pub fn flag(line: &[u8], at: usize) -> FlagWord
+#[tactic(auto, unfolding(crate::specs::Words::flag_at))]
+pub fn flag(line: &[u8], at: usize) -> Option<Word<bool>>
     ensures { result ≡ Words.flag_at line.now at }
 {
-    let off = mark(line, at, b'0');
-    if off != NOWHERE {
-        return FlagWord {
-            on: false,
-            next: off,
-        };
-    }
-    FlagWord {
-        on: true,
-        next: mark(line, at, b'1'),
+    match mark(line, at, b'0') {
+        Some(next) => Some(Word { value: false, next }),
+        None => Some(Word {
+            value: true,
+            next: mark(line, at, b'1')?,
+        }),
     }
 }
 
 // Two digits.
-pub fn byte(line: &[u8], at: usize) -> ByteWord
+#[tactic(auto, unfolding(crate::specs::Words::byte_at), using(crate::proofs::WordReads::byte_past))]
+pub fn byte(line: &[u8], at: usize) -> Option<Word<u8>>
     ensures { result ≡ Words.byte_at line.now at }
 {
-    if at < line.len() {
-        if 1 < line.len() - at {
-            return pair(digit_of(line[at]), digit_of(line[at + 1]), at + 2);
-        }
-    }
-    ByteWord::MALFORMED
-}
-
-fn pair(high: u8, low: u8, next: usize) -> ByteWord
-    ensures { result ≡ Words.pair_of high low next }
-{
-    if high < 16 {
-        if low < 16 {
-            return ByteWord {
-                value: high * 16 + low,
-                next,
-            };
-        }
-    }
-    ByteWord::MALFORMED
+    let [high, low, ..] = line.get(at..)? else {
+        return None;
+    };
+    let high = digit_of(*high)?;
+    let low = digit_of(*low)?;
+    Some(Word {
+        value: high * 16 + low,
+        next: at + 2,
+    })
 }
 
 // A dash for none, or one at least and no more than `given` has room for.
-pub fn bytes(line: &[u8], at: usize, given: &mut [u8]) -> BytesWord
+#[tactic(auto, unfolding(crate::specs::Words::bytes_at), using(crate::proofs::WordReads::bytes_dash))]
+pub fn bytes(line: &[u8], at: usize, given: &mut [u8]) -> Option<Word<usize>>
     ensures value { result ≡ Words.bytes_at (length given.old) line.now at }
     ensures given_after { given.new ≡ Words.bytes_in given.old line.now at }
 {
-    let dash = mark(line, at, b'-');
-    if dash != NOWHERE {
-        return BytesWord {
-            count: 0,
-            next: dash,
-        };
+    if let Some(next) = mark(line, at, b'-') {
+        return Some(Word { value: 0, next });
     }
     let found = pairs(line, at, given);
-    if found.count == 0 {
-        return BytesWord::MALFORMED;
+    if found.value == 0 {
+        return None;
     }
-    found
+    Some(found)
 }
 
-fn pairs(line: &[u8], from: usize, given: &mut [u8]) -> BytesWord
+fn pairs(line: &[u8], from: usize, given: &mut [u8]) -> Word<usize>
     ensures value { result ≡ Words.pairs_at (length given.old) line.now from }
     ensures given_after { given.new ≡ Words.bytes_in given.old line.now from }
 {
     let mut at = from;
-    for k in 0..given.len() {
-        let found = byte(line, at);
-        if found.next == NOWHERE {
-            return BytesWord { count: k, next: at };
-        }
-        given[k] = found.value;
+    for (k, place) in given.iter_mut().enumerate() {
+        let Some(found) = byte(line, at) else {
+            return Word { value: k, next: at };
+        };
+        *place = found.value;
         at = found.next;
     }
-    BytesWord {
-        count: given.len(),
+    Word {
+        value: given.len(),
         next: at,
     }
 }

@@ -1,85 +1,41 @@
 // The operations L and N: a section and an entry, written into lent bytes.
-use crate::operation::malformed;
-use crate::print::word;
+use crate::print::Output;
 use crate::{lent, lists, show, words};
 use basis::Answer;
 use report::fill;
-use service_list::{ServiceEntry, ServiceInfo};
 
-pub fn section(
-    rt: &(impl Print + Eprint),
-    line: &[u8],
-    lent: &mut [u8],
-    out: &mut [u8],
-    at: usize,
-) -> usize {
-    let lends = lent::room(line);
-    let room = lends.value as usize;
-    let word = lists::list(line, words::mark(line, lends.next, b' '));
-    let list = word.list;
-    if !words::ends(line, word.next) {
-        return malformed(rt, out, at);
-    }
-    if lent.len() < room {
-        return malformed(rt, out, at);
-    }
-    section_into(rt, list, &mut lent[0..room], out, at)
+pub fn section(line: &[u8], lent: &mut [u8], out: &mut Output<impl Print + Eprint>) -> Option<()> {
+    let room = lent::room(line)?;
+    let list = lists::list(line, words::mark(line, room.next, b' ')?)?;
+    let lent = filled(line, list.next, room.value, lent)?;
+    let answer = list.value.write_into(lent);
+    out.word(b"L ");
+    written(answer, lent, out);
+    Some(())
 }
 
-fn section_into(
-    rt: &(impl Print + Eprint),
-    list: ServiceInfo,
-    lent: &mut [u8],
-    out: &mut [u8],
-    at: usize,
-) -> usize {
+pub fn entry(line: &[u8], lent: &mut [u8], out: &mut Output<impl Print + Eprint>) -> Option<()> {
+    let room = lent::room(line)?;
+    let entry = lists::entry(line, words::mark(line, room.next, b' ')?)?;
+    let lent = filled(line, entry.next, room.value, lent)?;
+    let answer = entry.value.write_into(lent);
+    out.word(b"N ");
+    written(answer, lent, out);
+    Some(())
+}
+
+// So many of the lent bytes, as they are lent, where the line ends here.
+fn filled<'a>(line: &[u8], at: usize, room: u32, lent: &'a mut [u8]) -> Option<&'a mut [u8]> {
+    if !words::ends(line, at) {
+        return None;
+    }
+    let lent = lent.get_mut(..room as usize)?;
     fill(lent);
-    let answer = list.write_into(lent);
-    let letter = word(rt, out, at, b"L ");
-    written(rt, answer, lent, out, letter)
-}
-
-pub fn entry(
-    rt: &(impl Print + Eprint),
-    line: &[u8],
-    lent: &mut [u8],
-    out: &mut [u8],
-    at: usize,
-) -> usize {
-    let lends = lent::room(line);
-    let room = lends.value as usize;
-    let word = lists::entry(line, words::mark(line, lends.next, b' '));
-    let entry = word.entry;
-    if !words::ends(line, word.next) {
-        return malformed(rt, out, at);
-    }
-    if lent.len() < room {
-        return malformed(rt, out, at);
-    }
-    entry_into(rt, entry, &mut lent[0..room], out, at)
-}
-
-fn entry_into(
-    rt: &(impl Print + Eprint),
-    entry: ServiceEntry,
-    lent: &mut [u8],
-    out: &mut [u8],
-    at: usize,
-) -> usize {
-    fill(lent);
-    let answer = entry.write_into(lent);
-    let letter = word(rt, out, at, b"N ");
-    written(rt, answer, lent, out, letter)
+    Some(lent)
 }
 
 // The answer and the whole of the lent bytes.
-pub fn written(
-    rt: &(impl Print + Eprint),
-    answer: Answer,
-    lent: &[u8],
-    out: &mut [u8],
-    at: usize,
-) -> usize {
-    let answered = show::answer(rt, out, at, answer);
-    lent::show(rt, out, answered, lent)
+pub fn written(answer: Answer, lent: &[u8], out: &mut Output<impl Print + Eprint>) {
+    show::answer(out, answer);
+    lent::show(out, lent);
 }

@@ -15,6 +15,7 @@ pub fn number(out: &mut [u8], at: usize, name: &[u8], n: u64) -> usize
 }
 
 // The last two digits of a number, which are all of one below 100.
+#[tactic(auto, unfolding(crate::specs::Digits::two_digits))]
 pub fn two_digits(out: &mut [u8], at: usize, name: &[u8], n: u8) -> usize
     ensures { PutInRoom at (name.now ++ two_digits n) out.old result out.new }
 {
@@ -23,6 +24,7 @@ pub fn two_digits(out: &mut [u8], at: usize, name: &[u8], n: u8) -> usize
 }
 
 // A byte in hexadecimal.
+#[tactic(auto, unfolding(crate::specs::Digits::hex_text))]
 pub fn hex(out: &mut [u8], at: usize, name: &[u8], byte: u8) -> usize
     ensures { PutInRoom at (name.now ++ hex_text byte) out.old result out.new }
 {
@@ -31,6 +33,7 @@ pub fn hex(out: &mut [u8], at: usize, name: &[u8], byte: u8) -> usize
 }
 
 // 1 or 0.
+#[tactic(auto, unfolding(crate::specs::Digits::flag_text))]
 pub fn flag(out: &mut [u8], at: usize, name: &[u8], on: bool) -> usize
     ensures { PutInRoom at (name.now ++ flag_text on) out.old result out.new }
 {

@@ -19,8 +19,8 @@ pub fn word(out: &mut [u8], from: usize, text: &[u8]) -> usize
     ensures { PutInRoom from text.now out.old result out.new }
 {
     let mut at = from;
-    for k in 0..text.len() {
-        at = byte(out, at, text[k]);
+    for x in text {
+        at = byte(out, at, *x);
     }
     at
 }

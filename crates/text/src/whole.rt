@@ -2,7 +2,7 @@
 ghost use Rattle.std.specs.Prelude.{◌≡◌};
 ghost use Rattle.text.specs.Whole.{text_written};
 
-use basis::Answer;
+use basis::{Answer, Refusal};
 
 // Puts the text at the buffer's start and answers with its length, or answers 11 and writes nothing.
 pub fn put_whole(out: &mut [u8], text: &[u8]) -> Answer
@@ -12,7 +12,7 @@ pub fn put_whole(out: &mut [u8], text: &[u8]) -> Answer
     let needed = text.len();
     let room = out.len();
     if room < needed {
-        return Answer::buffer_too_short(needed, room);
+        return Answer::from(Refusal::BufferTooShort(needed, room));
     }
     basis::put(out, 0, text);
     Answer::done(needed)

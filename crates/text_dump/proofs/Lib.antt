@@ -1,4 +1,5 @@
 pub mod Places
+pub mod Triplets
 pub mod PacketDumped
 pub mod TextMost
 pub mod Printed

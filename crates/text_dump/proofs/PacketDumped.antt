@@ -2,8 +2,8 @@
 -- Assumes nothing.
 use mathlib.Core.Bool.{Bool, true, false}
 use mathlib.Core.List.{List, [], ◌∷◌}
-use mathlib.Core.Path.{◌≡◌, ◌∙◌, sym, ap}
-use Prim.Native.Nat.{ℕ, ◌≤◌}
+use mathlib.Core.Path.{◌≡◌, ◌∙◌, refl, sym, ap}
+use Prim.Native.Nat.{ℕ, ◌<◌, ◌≤◌, ◌%◌}
 use native.Mathlib.Omega.{arith}
 use lib.Dec.{eqb}
 use lib.ListN.{length, length-take, replicate, take}
@@ -56,6 +56,17 @@ pub few_shown : (p : List ℕ) → (shown_by p).service_info.service_info.count 
 unfolding shown_by
 few_shown p = few_entries p (flags_in p).svc_info (services_at p)
 
+-- captions are whole triplets behind two bytes
+whole_captions : (p : List ℕ) (there : Bool) → (flags_in p).cc_data ≡ there → length (captions_of p) ≡ captions_length p
+    → 0 < length (captions_of p)
+    → length (captions_of p) % 3 ≡ 2
+whole_captions p true e same some =
+    let size : captions_length p % 3 ≡ 2 = rw e (omega arith) in
+    omega (arith, same, size)
+whole_captions p false e same some =
+    let size : captions_length p ≡ 0 = rw e in
+    absurd (omega (arith, same, size, some))
+
 -- what a new reader gave: its answer and its state, and the caption buffer as it was left
 module _ (s : CDPParser) (p buffer after : List ℕ) (r : CDPParserRead) (new : s ≡ fresh_reader)
     (room : length buffer ≡ caption_room) (gave : r ≡ read s p (length buffer)) (left : after ≡ buffer_after p buffer) where
@@ -84,6 +95,10 @@ module _ (s : CDPParser) (p buffer after : List ℕ) (r : CDPParserRead) (new : 
 
     pub handed_within : r.answer.first ≤ length after
     handed_within = omega (arith, handed_size, length-take r.answer.first after)
+
+    -- none, or whole triplets behind two bytes
+    pub whole_handed : 0 < length (take r.answer.first after) → length (take r.answer.first after) % 3 ≡ 2
+    whole_handed = rw handed_out (λ some. whole_captions p (flags_in p).cc_data refl (captions_long p (packet_kept p accepted)) some)
 
     pub places_enough : r.parser.service_info.service_info.count ≤ places
     places_enough =

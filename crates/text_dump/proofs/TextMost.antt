@@ -44,27 +44,28 @@ use Rattle.text_dump.specs.Lines.{
 }
 use Rattle.text_dump.proofs.PacketDumped.{answer_is, few_listed, packet_kept, parser_is}
 use Rattle.values.specs.Layout.{caption_room, section_entry_size}
-use Rattle.values.specs.Rate.{from_id, no_rate, present, row}
+use Rattle.values.specs.Rate.{from_id, row}
 use Rattle.basis.specs.declared.answer.Answer.{Answer}
 use Rattle.service_entry.specs.declared.entry.ServiceEntry.{ServiceEntry}
 use Rattle.service_entry.specs.declared.service.FieldOrService.{FieldOrService}
 use Rattle.service_entry.specs.declared.service.FieldOrService.TheVariants.{Field, Service}
 use Rattle.service_list.specs.declared.list.ServiceInfo.{ServiceInfo}
 use Rattle.values.specs.declared.framerate.Framerate.{Framerate}
-use Rattle.values.specs.declared.framerate.MaybeFramerate.{MaybeFramerate}
+use Rattle.std.specs.Prelude.{Option, Some, None}
+use Rattle.text_dump.specs.Lines.{rate_shown}
 use Rattle.values_time.specs.declared.time.MaybeTimeCode.{MaybeTimeCode}
 
 lines_size : (xs ys : List (List ℕ)) → length (lines_text (xs ++ ys)) ≡ length (lines_text xs) + length (lines_text ys)
 lines_size xs ys = ap length (sym (lines_append xs ys)) ∙ length-append (lines_text xs) (lines_text ys)
 
 -- the rate's line: each of the eight, and none
-one_rate : (here : Bool) (r : Framerate) (others : MaybeFramerate) → length (rate_line r) ≤ 17
-    → length (rate_line others.framerate) ≤ 17
-    → length (rate_line (cond here (present r) others).framerate) ≤ 17
+one_rate : (here : Bool) (r : Framerate) (others : Option Framerate) → length (rate_line r) ≤ 17
+    → length (rate_line (rate_shown others)) ≤ 17
+    → length (rate_line (rate_shown (cond here (Some r) others))) ≤ 17
 one_rate true r others h k = h
 one_rate false r others h k = k
 
-rate_most : (id : ℕ) → length (rate_line (from_id id).framerate) ≤ 17
+rate_most : (id : ℕ) → length (rate_line (rate_shown (from_id id))) ≤ 17
 unfolding from_id rate_line decimal_text
 rate_most id =
     one_rate (eqb id 1) (row 1 24000 1001) _ (lit≤ tt)
@@ -74,7 +75,7 @@ rate_most id =
     (one_rate (eqb id 5) (row 5 30 1) _ (lit≤ tt)
     (one_rate (eqb id 6) (row 6 50 1) _ (lit≤ tt)
     (one_rate (eqb id 7) (row 7 60000 1001) _ (lit≤ tt)
-    (one_rate (eqb id 8) (row 8 60 1) no_rate (lit≤ tt) (lit≤ tt))))))))
+    (one_rate (eqb id 8) (row 8 60 1) None (lit≤ tt) (lit≤ tt))))))))
 
 -- the sequence's line, of two bytes
 sequence_most : (high low : ℕ) → high < 256 → low < 256 → length (sequence_line (high * 256 + low)) ≤ 14

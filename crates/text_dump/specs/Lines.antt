@@ -1,5 +1,5 @@
 -- The dump's lines below the answer's, as docs/RULES.md has them: of what a reader shows.
-use Rattle.std.specs.Prelude.{Bool, cond, List, [], ◌∷◌, ◌++◌, ℕ, ◌+◌, ◌*◌, ◌/◌, eqb, length, get_or}
+use Rattle.std.specs.Prelude.{Bool, cond, List, [], ◌∷◌, ◌++◌, ℕ, ◌+◌, ◌*◌, ◌/◌, Option, unwrap_or, eqb, length, get_or}
 use Rattle.basis.specs.Bytes.{byte}
 use Rattle.basis.specs.Made.{made}
 use Rattle.values.specs.Layout.{section_head_size, triplet_size}
@@ -14,6 +14,7 @@ use Rattle.service_entry.specs.declared.service.FieldOrService.{FieldOrService}
 use Rattle.service_entry.specs.declared.service.FieldOrService.TheVariants.{Field, Service}
 use Rattle.service_list.specs.declared.list.MaybeServiceInfo.{MaybeServiceInfo}
 use Rattle.service_list.specs.declared.list.ServiceInfo.{ServiceInfo}
+use Rattle.values.specs.Rate.{row}
 use Rattle.values.specs.declared.framerate.Framerate.{Framerate}
 use Rattle.values_time.specs.declared.time.MaybeTimeCode.{MaybeTimeCode}
 use Rattle.values_time.specs.declared.time.TimeCode.{TimeCode}
@@ -90,10 +91,14 @@ service_lines l =
 unfoldable pub active_line : Bool → Line
 active_line active = flag_after "active " active
 
+-- the rate that is shown: zeros where there is none
+abbrev pub rate_shown : Option Framerate → Framerate
+rate_shown found = unwrap_or found (row 0 0 0)
+
 -- what a reader shows of an accepted packet, which has a rate, and what it handed out
 unfoldable pub shown_lines : CDPParser → List ℕ → List Line
 shown_lines s handed_out =
-    rate_line s.framerate.framerate
+    rate_line (rate_shown s.framerate)
     ∷ sequence_line s.sequence
     ∷ time_line s.time_code
     ∷ (caption_lines handed_out ++ (service_lines s.service_info ++ active_line s.caption_active ∷ []))

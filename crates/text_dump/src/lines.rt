@@ -1,5 +1,5 @@
 // The lines of what a reader shows, each part's in turn.
-ghost use Rattle.std.specs.Prelude.{◌≤◌};
+ghost use Rattle.std.specs.Prelude.{◌≡◌, ◌<◌, ◌≤◌, ◌%◌, length};
 ghost use Rattle.service_entries.specs.Entries.{places};
 ghost use Rattle.text.specs.Lines.{line_text, lines_text};
 ghost use Rattle.text.specs.Room.{PutInRoom};
@@ -14,10 +14,16 @@ use values_time::{MaybeTimeCode, TimeCode};
 
 // What the reader shows of an accepted packet, and the captions that it handed out.
 pub(crate) fn shown(out: &mut [u8], at: usize, parser: CDPParser, handed_out: &[u8]) -> usize
-    requires { parser.service_info.service_info.count ≤ places }
+    requires listed { parser.service_info.service_info.count ≤ places }
+    requires whole { 0 < length handed_out.now → length handed_out.now % 3 ≡ 2 }
     ensures { PutInRoom at (lines_text (Lines.shown_lines parser handed_out.now)) out.old result out.new }
 {
-    let framerate = parser.framerate.framerate;
+    // An accepted packet has one.
+    let framerate = parser.framerate.unwrap_or(Framerate {
+        id: 0,
+        numer: 0,
+        denom: 0,
+    });
     let time_code = parser.time_code;
     let service_info = parser.service_info;
     let rated = rate(out, at, framerate);

@@ -1,5 +1,5 @@
 // The service list: its count and flags, then a line for each entry.
-ghost use Rattle.std.specs.Prelude.{cond, ◌≡◌, ◌≤◌};
+ghost use Rattle.std.specs.Prelude.{cond, ◌≡◌, ◌≤◌, length};
 ghost use Rattle.basis.specs.Made.{made};
 ghost use Rattle.service_entries.specs.Entries.{places};
 ghost use Rattle.text.specs.Lines.{line_text, lines_text};
@@ -19,9 +19,8 @@ pub(crate) fn services(out: &mut [u8], at: usize, shown: MaybeServiceInfo) -> us
         return line(out, at, b"services none");
     }
     let list = shown.service_info;
-    let services = list.services;
     let headed = head(out, at, list);
-    entries(out, headed, services, list.count)
+    entries(out, headed, &list.services[..list.count])
 }
 
 fn head(out: &mut [u8], at: usize, shown: ServiceInfo) -> usize
@@ -34,14 +33,12 @@ fn head(out: &mut [u8], at: usize, shown: ServiceInfo) -> usize
     line(out, complete, b"")
 }
 
-fn entries(out: &mut [u8], from: usize, services: [ServiceEntry; 15], count: usize) -> usize
-    requires { count ≤ places }
-    ensures { PutInRoom from (lines_text (made (Lines.place_line services) count)) out.old result out.new }
+fn entries(out: &mut [u8], from: usize, listed: &[ServiceEntry]) -> usize
+    ensures { PutInRoom from (lines_text (made (Lines.place_line listed.now) (length listed.now))) out.old result out.new }
 {
     let mut at = from;
-    for k in 0..count {
-        let shown = services[k];
-        at = entry(out, at, shown);
+    for shown in listed {
+        at = entry(out, at, *shown);
     }
     at
 }

@@ -1,7 +1,7 @@
 -- The runs of a predicate: a value is in one of them where it is asked for, they ascend and do not touch, and how long their
 -- text can be.
 -- Assumes nothing.
-use mathlib.Core.Bool.{Bool, true, false, cond, ◌&&◌, ◌||◌, and-false, or_assoc, or-false, or-true, true≢false}
+use mathlib.Core.Bool.{Bool, true, false, cond, ◌&&◌, ◌||◌, and-false, or_assoc, or-false, or-true}
 use mathlib.Core.List.{List, [], ◌∷◌, ◌++◌}
 use mathlib.Core.Path.{◌≡◌, ◌∙◌, sym, refl, ap}
 use Prim.Native.Nat.{ℕ, zero, suc, ◌+◌, ◌*◌, ◌≤◌, ◌<◌}
@@ -25,6 +25,7 @@ use Rattle.text_values.specs.Runs.{
   scanned,
   shut,
 }
+use Rattle.std.specs.Prelude.{Option, Some, None}
 
 -- the least value that a run behind these may begin with
 abbrev next_low : ℕ → List Run → ℕ
@@ -52,34 +53,37 @@ next_more least (first ∷ runs) run = next_more (first.high + 2) runs run
 -- what holds of the values below n: those that have ended are apart, and so is the one that goes on, which ends with the last
 record Spaced (n : ℕ) (s : Scanned) : Type 0 where
   apart : Apart 0 s.ended
-  going : s.going ≡ true → (next_low 0 s.ended ≤ s.last.low) × (s.last.low ≤ s.last.high) × (s.last.high + 1 ≡ n)
-  idle : s.going ≡ false → next_low 0 s.ended ≤ n
+  going : (run : Run) → s.going ≡ Some run → (next_low 0 s.ended ≤ run.low) × (run.low ≤ run.high) × (run.high + 1 ≡ n)
+  idle : s.going ≡ None → next_low 0 s.ended ≤ n
 
-spaced_grown : (n : ℕ) (s : Scanned) (going : Bool) → s.going ≡ going → Spaced n s → Spaced (suc n) (grown s n)
-spaced_grown n s true e p =
-    let g = p.going e in
-    record { apart = p.apart; going = λ h. rw e (g.0, omega (arith, g), omega (arith, g)); idle = λ h. absurd (true≢false h) }
-spaced_grown n s false e p =
-    record {
-      apart = p.apart;
-      going = λ h. rw e (p.idle e, omega arith, omega arith);
-      idle = λ h. absurd (true≢false h);
-    }
+-- of a scan by the run that goes on
+spaced_on : (n : ℕ) (ended : List Run) (run : Run) → Apart 0 ended → next_low 0 ended ≤ run.low → run.low ≤ run.high
+    → run.high + 1 ≡ n
+    → Spaced n (record { ended = ended; going = Some run })
+spaced_on n ended run a h k e = record { apart = a; going = λ other same. same_run other same; idle = λ same. absurd (cc same) }
+  where
+    same_run : (other : Run) → Some run ≡ Some other → (next_low 0 ended ≤ other.low) × (other.low ≤ other.high) × (other.high + 1 ≡ n)
+    same_run other same =
+        let is : run ≡ other = cc same in
+        rw (← is) (h, k, e)
 
-spaced_shut : (n : ℕ) (s : Scanned) (going : Bool) → s.going ≡ going → Spaced n s → Spaced (suc n) (shut s)
-spaced_shut n s true e p =
-    let g = p.going e in
-    record {
-      apart = rw e (apart_more 0 s.ended s.last p.apart g.0 g.1);
-      going = λ h. absurd (true≢false (sym h));
-      idle = λ h. rw (e, next_more 0 s.ended s.last) (omega (arith, g));
-    }
-spaced_shut n s false e p =
-    record {
-      apart = rw e p.apart;
-      going = λ h. absurd (true≢false (sym h));
-      idle = λ h. rw e (omega (arith, p.idle e));
-    }
+spaced_off : (n : ℕ) (ended : List Run) → Apart 0 ended → next_low 0 ended ≤ n → Spaced n (record { ended = ended; going = None })
+spaced_off n ended a h = record { apart = a; going = λ run same. absurd (cc same); idle = λ same. h }
+
+spaced_grown : (n : ℕ) (s : Scanned) (going : Option Run) → s.going ≡ going → Spaced n s → Spaced (suc n) (grown s n)
+spaced_grown n s (Some run) e p =
+    let g = p.going run e in
+    rw e (spaced_on (suc n) s.ended (record { low = run.low; high = n }) p.apart g.0 (omega (arith, g)) (omega arith))
+spaced_grown n s None e p =
+    rw e (spaced_on (suc n) s.ended (record { low = n; high = n }) p.apart (p.idle e) (omega arith) (omega arith))
+
+spaced_shut : (n : ℕ) (s : Scanned) (going : Option Run) → s.going ≡ going → Spaced n s → Spaced (suc n) (shut s)
+spaced_shut n s (Some run) e p =
+    let g = p.going run e in
+    rw e
+    (spaced_off (suc n) (s.ended ++ run ∷ []) (apart_more 0 s.ended run p.apart g.0 g.1)
+    (rw (next_more 0 s.ended run) (omega (arith, g))))
+spaced_shut n s None e p = rw e (spaced_off (suc n) s.ended p.apart (omega (arith, p.idle e)))
 
 spaced_step : (n : ℕ) (s : Scanned) (taken : Bool) → Spaced n s → Spaced (suc n) (cond taken (grown s n) (shut s))
 spaced_step n s true p = spaced_grown n s s.going refl p
@@ -87,21 +91,21 @@ spaced_step n s false p = spaced_shut n s s.going refl p
 
 spaced : (asked : ℕ → Bool) (n : ℕ) → Spaced n (scanned asked n)
 unfolding scanned
-spaced asked zero = record { apart = tt; going = λ h. absurd (true≢false (sym h)); idle = λ h. omega arith }
+spaced asked zero = spaced_off 0 [] tt (omega arith)
 spaced asked (suc n) = spaced_step n (scanned asked n) (asked n) (spaced asked n)
 
 -- a value that is taken is in the runs from then on, and of the others none more
-new_taken : (n : ℕ) (s : Scanned) (going : Bool) → s.going ≡ going → Spaced n s → among n (runs_so_far (grown s n)) ≡ true
-new_taken n s true e p =
-    let g = p.going e in
+new_taken : (n : ℕ) (s : Scanned) (going : Option Run) → s.going ≡ going → Spaced n s → among n (runs_so_far (grown s n)) ≡ true
+new_taken n s (Some run) e p =
+    let g = p.going run e in
     rw (
       e,
-      among_more n s.ended (record { low = s.last.low; high = n }),
-      le-leb s.last.low n (omega (arith, g)),
+      among_more n s.ended (record { low = run.low; high = n }),
+      le-leb run.low n (omega (arith, g)),
       le-leb n n (omega arith),
     )
     (or-true (among n s.ended))
-new_taken n s false e p =
+new_taken n s None e p =
     rw (e, among_more n s.ended (record { low = n; high = n }), le-leb n n (omega arith)) (or-true (among n s.ended))
 
 -- up to n and up to the value before it are the same but for n
@@ -114,16 +118,16 @@ alone : (v n : ℕ) (below : Bool) → leb v n ≡ below → (v ≡ n → ⊥) �
 alone v n true e h = rw (lt-leb n v (omega (arith, leb-true v n e)))
 alone v n false e h = and-false (leb n v)
 
-others_same : (n : ℕ) (s : Scanned) (going : Bool) → s.going ≡ going → Spaced n s → (v : ℕ) → (v ≡ n → ⊥)
+others_same : (n : ℕ) (s : Scanned) (going : Option Run) → s.going ≡ going → Spaced n s → (v : ℕ) → (v ≡ n → ⊥)
     → among v (runs_so_far (grown s n)) ≡ among v (runs_so_far s)
-others_same n s true e p v h =
+others_same n s (Some run) e p v h =
     rw (
       e,
-      among_more v s.ended (record { low = s.last.low; high = n }),
-      among_more v s.ended s.last,
-      up_to v n s.last.high (leb v n) refl h (p.going e).2,
+      among_more v s.ended (record { low = run.low; high = n }),
+      among_more v s.ended run,
+      up_to v n run.high (leb v n) refl h (p.going run e).2,
     )
-others_same n s false e p v h =
+others_same n s None e p v h =
     rw (e, among_more v s.ended (record { low = n; high = n }), alone v n (leb v n) refl h) (or-false (among v s.ended))
 
 -- what holds of the runs of the values below n
@@ -159,15 +163,15 @@ kept asked zero = record { inside = λ v h. absurd (omega (arith, h)); outside =
 kept asked (suc n) = kept_step asked n (scanned asked n) (asked n) refl (spaced asked n) (kept asked n)
 
 -- the runs so far are apart, and the last of them ends below n
-spaced_apart : (n : ℕ) (s : Scanned) (going : Bool) → s.going ≡ going → Spaced n s
+spaced_apart : (n : ℕ) (s : Scanned) (going : Option Run) → s.going ≡ going → Spaced n s
     → Apart 0 (runs_so_far s) × (next_low 0 (runs_so_far s) ≤ n + 1)
-spaced_apart n s true e p =
-    let g = p.going e in
+spaced_apart n s (Some run) e p =
+    let g = p.going run e in
     rw e (
-      apart_more 0 s.ended s.last p.apart g.0 g.1,
-      rw (next_more 0 s.ended s.last) (omega (arith, g)),
+      apart_more 0 s.ended run p.apart g.0 g.1,
+      rw (next_more 0 s.ended run) (omega (arith, g)),
     )
-spaced_apart n s false e p = rw e (p.apart, omega (arith, p.idle e))
+spaced_apart n s None e p = rw e (p.apart, omega (arith, p.idle e))
 
 -- the text of a run is shorter than twice what it moves the next one on by
 run_most : (run : Run) (one : Bool) → eqb run.low run.high ≡ one → run.low ≤ run.high

@@ -1,12 +1,12 @@
 -- The values of a byte that are taken, as runs of values that follow on one another.
-use Rattle.std.specs.Prelude.{Bool, true, false, cond, ◌&&◌, ◌||◌, List, [], ◌∷◌, ◌++◌, ℕ, zero, suc, ◌+◌, ◌≤◌, eqb, leb}
+use Rattle.std.specs.Prelude.{Bool, false, cond, ◌&&◌, ◌||◌, List, [], ◌∷◌, ◌++◌, Option, Some, None, ℕ, zero, suc, ◌+◌, ◌≤◌, eqb, leb}
 use Rattle.text.specs.Ascii.{ascii}
 use Rattle.text.specs.Digits.{hex_after, hex_text}
+use Rattle.text_values.specs.declared.runs.Run.{Run as LowHigh}
 
 -- the values from low to high, both among them
-pub record Run : Type 0 where
-  pub low : ℕ
-  pub high : ℕ
+abbrev pub Run : Type 0
+Run = LowHigh
 
 -- whether a value is in one of them
 abbrev pub among : ℕ → List Run → Bool
@@ -18,29 +18,35 @@ abbrev pub Apart : ℕ → List Run → Type 0
 Apart least [] = Unit
 Apart least (run ∷ runs) = (least ≤ run.low) × (run.low ≤ run.high) × Apart (run.high + 2) runs
 
--- the values looked at so far: the runs that have ended; whether the last value was taken, so that the last run goes on; and
--- that run
+-- the values looked at so far: the runs that have ended, and the one that goes on, where the last value was taken
 pub record Scanned : Type 0 where
   pub ended : List Run
-  pub going : Bool
-  pub last : Run
+  pub going : Option Run
 
 -- a value that is taken is the new end of the run that goes on, or begins one
+abbrev pub low_of : Option Run → ℕ → ℕ
+low_of None v = v
+low_of (Some run) v = run.low
+
 abbrev pub grown : Scanned → ℕ → Scanned
 grown s v =
-    record { ended = s.ended; going = true; last = record { low = cond s.going s.last.low v; high = v } }
+    record { ended = s.ended; going = Some (record { low = low_of s.going v; high = v }) }
 
 -- the runs so far, with the one that goes on
+abbrev pub with_going : List Run → Option Run → List Run
+with_going runs None = runs
+with_going runs (Some run) = runs ++ run ∷ []
+
 abbrev pub runs_so_far : Scanned → List Run
-runs_so_far s = cond s.going (s.ended ++ s.last ∷ []) s.ended
+runs_so_far s = with_going s.ended s.going
 
 -- behind a value that is not taken none goes on
 abbrev pub shut : Scanned → Scanned
-shut s = record { ended = runs_so_far s; going = false; last = s.last }
+shut s = record { ended = runs_so_far s; going = None }
 
 -- all values below a number, from 0 on
 unfoldable pub scanned : (ℕ → Bool) → ℕ → Scanned
-scanned asked zero = record { ended = []; going = false; last = record { low = 0; high = 0 } }
+scanned asked zero = record { ended = []; going = None }
 scanned asked (suc v) = cond (asked v) (grown (scanned asked v) v) (shut (scanned asked v))
 
 -- all values of a byte

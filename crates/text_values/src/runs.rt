@@ -9,13 +9,19 @@ use basis::ByteTest;
 use explain_tests::takes;
 use text::hex;
 
-// What is held of the values looked at so far: whether a run is put, whether the last value was taken, and the last run.
+// The values from low to high, both among them.
+#[derive(Clone, Copy)]
+struct Run {
+    low: u8,
+    high: u8,
+}
+
+// What is held of the values looked at so far: whether a run is put, and the run that goes on, where the last value was
+// taken.
 #[derive(Clone, Copy)]
 struct Scan {
     some: bool,
-    going: bool,
-    low: u8,
-    high: u8,
+    going: Option<Run>,
 }
 
 // Puts the values that are taken, of all that a byte can have.
@@ -25,10 +31,9 @@ pub(crate) fn taken(out: &mut [u8], from: usize, test: ByteTest, said: u8) -> us
     let mut at = from;
     let mut scan = Scan {
         some: false,
-        going: false,
-        low: 0,
-        high: 0,
+        going: None,
     };
+    // Not `0..=u8::MAX`: that loop ends in a branch named by its bound, which the edit upper_half_left_out changes.
     for value in 0..256usize {
         let asked = takes(test, said, value as u8);
         at = behind(out, at, scan, asked);
@@ -51,19 +56,15 @@ fn next(scan: Scan, value: u8, asked: bool) -> Scan
     ensures { result ≡ Code.next_scan scan value asked }
 {
     if asked {
-        let low = if scan.going { scan.low } else { value };
+        let low = scan.going.map_or(value, |run| run.low);
         return Scan {
             some: scan.some,
-            going: true,
-            low,
-            high: value,
+            going: Some(Run { low, high: value }),
         };
     }
     Scan {
-        some: scan.some || scan.going,
-        going: false,
-        low: scan.low,
-        high: scan.high,
+        some: scan.some || scan.going.is_some(),
+        going: None,
     }
 }
 
@@ -71,22 +72,22 @@ fn next(scan: Scan, value: u8, asked: bool) -> Scan
 fn last(out: &mut [u8], at: usize, scan: Scan) -> usize
     ensures { PutInRoom at (Code.going_text scan) out.old result out.new }
 {
-    if !scan.going {
+    let Some(going) = scan.going else {
         return at;
-    }
+    };
     if scan.some {
-        run(out, at, b",", scan.low, scan.high)
+        put_run(out, at, b",", going)
     } else {
-        run(out, at, b"", scan.low, scan.high)
+        put_run(out, at, b"", going)
     }
 }
 
-fn run(out: &mut [u8], at: usize, between: &[u8], low: u8, high: u8) -> usize
-    ensures { PutInRoom at (between.now ++ Runs.run_text (record { low = low; high = high })) out.old result out.new }
+fn put_run(out: &mut [u8], at: usize, between: &[u8], run: Run) -> usize
+    ensures { PutInRoom at (between.now ++ Runs.run_text run) out.old result out.new }
 {
-    let first = hex(out, at, between, low);
-    if low == high {
+    let first = hex(out, at, between, run.low);
+    if run.low == run.high {
         return first;
     }
-    hex(out, first, b"-", high)
+    hex(out, first, b"-", run.high)
 }

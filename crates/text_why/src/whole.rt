@@ -37,6 +37,7 @@ impl WhyText {
         ensures value { result ≡ (text_written (why_text input.now) out.old).answer }
         ensures out_after { out.new ≡ (text_written (why_text input.now) out.old).buffer }
     {
+        // Here and in text_dump: a function of both is public, and requires of its closure what no public one may.
         let mut text = [0u8; Self::MOST_TEXT];
         let length = text_of(input, &mut text);
         put_whole(out, &text[..length])

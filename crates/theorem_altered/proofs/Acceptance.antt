@@ -9,16 +9,16 @@ use native.Mathlib.Omega.{arith}
 use borrow.Author.Tests.{eqb-true}
 use lib.Dec.{eqb}
 use lib.ListN.{length}
+use Rattle.basis.proofs.Readings.{answer_read}
 use Rattle.basis.proofs.Verdicts.{and_then, done_clear, kept_at_lem, moved_clear}
 use Rattle.basis.specs.Bytes.{byte}
-use Rattle.basis.specs.Check.{Verdict, clear, if_clear, size_when, verdict, when}
+use Rattle.basis.specs.Check.{clear, size_when, verdict, when}
 use Rattle.basis.specs.Mask.{under, xf0}
 use Rattle.values.specs.Flags.{flags_of}
 use Rattle.values.specs.Layout.{services_id, section_length, time_code_size}
 use Rattle.values.specs.Rate.{from_id}
 use Rattle.service_entries.specs.Entries.{section_checks}
 use Rattle.service_list.specs.Section.{list_of, section_read}
-use Rattle.service_list.specs.ServiceList.{empty}
 use Rattle.read_captions.specs.Captions.{captions_checks, captions_size, handed_out}
 use Rattle.read_header.specs.Header.{flags_in, rate_of, sequence_in}
 use Rattle.read_time_code.specs.TimeCode.{time_code_checks, time_code_of}
@@ -70,7 +70,7 @@ module _ (p q : List ℕ) (a : Altered p q) where
   flag_kept of h = kept (flags_in p).svc_info refl
     where
       kept : (services : Bool) → (flags_in p).svc_info ≡ services → of (flags_in q) ≡ of (flags_in p)
-      kept true on = ap of (a.section on).header_flags_mended ∙ h (section_read (section_in p q)).list
+      kept true on = ap of (a.section on).header_flags_mended ∙ h (list_of (section_in p q))
       kept false off = ap (λ (b : ℕ). of (flags_of b)) (a.same_flags off)
 
   timed : (flags_in q).time_code ≡ (flags_in p).time_code
@@ -151,16 +151,13 @@ module _ (p q : List ℕ) (a : Altered p q) where
     own_clear : verdict (section_checks own) ≡ clear
     unfolding section_read
     own_clear =
-        done_clear (verdict (section_checks own)) 0 (ap (λ (x : Answer). eqb x.number 0) (a.section on).well_formed)
-
-    own_list : (section_read own).list ≡ list_of own
-    unfolding section_read
-    own_list = ap (λ (v : Verdict). if_clear v (list_of own) empty) own_clear
+        done_clear (verdict (section_checks own)) 0
+        (ap (λ (x : Answer). eqb x.number 0)
+        (sym (answer_read (verdict (section_checks own)) (list_of own) 0) ∙ (a.section on).well_formed))
 
     own_flags : FlagsOf (flags_in q) (list_of own)
     own_flags =
-        let mended : flags_in q ≡ mended_flags (flags_in p) (list_of own) =
-        (a.section on).header_flags_mended ∙ ap (mended_flags (flags_in p)) own_list in
+        let mended : flags_in q ≡ mended_flags (flags_in p) (list_of own) = (a.section on).header_flags_mended in
         record {
           start = ap (λ (f : Flags). f.svc_info_start) mended;
           change = ap (λ (f : Flags). f.svc_info_change) mended;

@@ -12,6 +12,7 @@ use Rattle.basis.specs.Bytes.{byte, over}
 use Rattle.values.specs.Rate.{from_id}
 use Rattle.values_time.specs.Time.{digits}
 use Rattle.basis.specs.Answer.{done}
+use Rattle.basis.specs.Check.{read_answer}
 use Rattle.service_entries.specs.Entries.{count_of, filled, section_checks}
 use Rattle.service_list.specs.Section.{list_of, section_read}
 use Rattle.read_header.specs.Header.{flags_in}
@@ -80,7 +81,7 @@ both_put =
       checksum_mended = refl;
     }
 
-spanish_read : (section_read spanish).answer ≡ done 0
+spanish_read : read_answer (section_read spanish) 0 ≡ done 0
 unfolding section_checks section_read list_of filled
 spanish_read = refl
 
@@ -88,7 +89,7 @@ spanish_as_many : count_of spanish ≡ count_of (section_in packet_before packet
 unfolding section_checks section_read list_of filled
 spanish_as_many = refl
 
-spanish_flags : flags_in with_spanish ≡ mended_flags (flags_in packet_before) (section_read spanish).list
+spanish_flags : flags_in with_spanish ≡ mended_flags (flags_in packet_before) (list_of spanish)
 unfolding section_checks section_read list_of filled
 spanish_flags = refl
 

@@ -10,15 +10,16 @@ use borrow.Author.Tests.{eqb-true}
 use lib.Dec.{eqb}
 use lib.ListN.{length}
 use Rattle.basis.proofs.Puts.{length_over}
+use Rattle.basis.proofs.Readings.{answer_read}
 use Rattle.basis.proofs.Verdicts.{done_clear, kept_at_lem}
 use Rattle.basis.specs.Answer.{done}
 use Rattle.basis.specs.Bytes.{byte, over, part}
-use Rattle.basis.specs.Check.{clear, size_when, verdict}
+use Rattle.basis.specs.Check.{clear, read_answer, size_when, verdict}
 use Rattle.basis.specs.Mask.{under, x0f}
 use Rattle.values.specs.Flags.{flags_of}
 use Rattle.values.specs.Layout.{section_length, footer_size}
 use Rattle.service_entries.specs.Entries.{count_of, section_checks}
-use Rattle.service_list.specs.Section.{section_read}
+use Rattle.service_list.specs.Section.{list_of, section_read}
 use Rattle.read_header.specs.Header.{flags_in}
 use Rattle.read_services.specs.Services.{services_size}
 use Rattle.read_packet.specs.Packet.{closing_at, footer_at, packet_checks, services_at}
@@ -108,9 +109,9 @@ module _ (p : List ℕ) (accepted : verdict (packet_checks p) ≡ clear) (ends :
 
   -- The second half: any well-formed section with as many entries, and a byte 4 that has its three flags.
   module _ (section : List ℕ) (flags : ℕ) (on : (flags_in p).svc_info ≡ true)
-      (well_formed : (section_read section).answer ≡ done 0)
+      (well_formed : read_answer (section_read section) 0 ≡ done 0)
       (as_many : count_of section ≡ count_of (section_in p p))
-      (mended_flags_of : flags_of flags ≡ mended_flags (flags_in p) (section_read section).list) where
+      (mended_flags_of : flags_of flags ≡ mended_flags (flags_in p) (list_of section)) where
     abbrev at : ℕ
     at = services_at p
 
@@ -118,7 +119,9 @@ module _ (p : List ℕ) (accepted : verdict (packet_checks p) ≡ clear) (ends :
     unfolding section_read section_checks
     own_long =
         let all : verdict (section_checks section) ≡ clear =
-        done_clear (verdict (section_checks section)) 0 (ap (λ (a : Answer). eqb a.number 0) well_formed) in
+        done_clear (verdict (section_checks section)) 0
+        (ap (λ (a : Answer). eqb a.number 0)
+        (sym (answer_read (verdict (section_checks section)) (list_of section) 0) ∙ well_formed)) in
         eqb-true _ _ (kept_at_lem 3 (section_checks section) all)
 
     closing_is : closing_at p ≡ at + length section

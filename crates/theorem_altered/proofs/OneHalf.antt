@@ -83,7 +83,7 @@ module _ (p q : List ℕ) (c : OtherCaptions p q) where
         record {
           well_formed = rw own;
           as_many_entries = ap count_of section_kept;
-          header_flags_mended = ap flags_of c.same_flags ∙ rw (own, ← flags.start, ← flags.change, ← flags.complete);
+          header_flags_mended = ap flags_of c.same_flags ∙ rw (← flags.start, ← flags.change, ← flags.complete);
         }
 
   pub captions_altered : Altered p q

@@ -2,9 +2,9 @@
 use Rattle.std.specs.Prelude.{true, false, cond, List, [], ◌≡◌, ℕ, ◌+◌, ◌-◌, length, take}
 use Rattle.basis.specs.Answer.{done}
 use Rattle.basis.specs.Bytes.{byte, part}
-use Rattle.basis.specs.Check.{clear, size_when, verdict}
+use Rattle.basis.specs.Check.{clear, read_answer, size_when, verdict}
 use Rattle.service_entries.specs.Entries.{count_of}
-use Rattle.service_list.specs.Section.{section_read}
+use Rattle.service_list.specs.Section.{list_of, section_read}
 use Rattle.read_captions.specs.Captions.{handed_out}
 use Rattle.read_header.specs.Header.{flags_in}
 use Rattle.read_closing.specs.Closing.{checksum_of}
@@ -49,9 +49,9 @@ mended_flags f l =
 
 -- another well-formed section with as many entries, its three header flags mended
 pub record OtherSection (p q : List ℕ) : Type 0 where
-  pub well_formed : (section_read (section_in p q)).answer ≡ done 0
+  pub well_formed : read_answer (section_read (section_in p q)) 0 ≡ done 0
   pub as_many_entries : count_of (section_in p q) ≡ count_of (section_in p p)
-  pub header_flags_mended : flags_in q ≡ mended_flags (flags_in p) (section_read (section_in p q)).list
+  pub header_flags_mended : flags_in q ≡ mended_flags (flags_in p) (list_of (section_in p q))
 
 -- the first half: other caption bytes, and the flags as they were
 pub record OtherCaptions (p q : List ℕ) : Type 0 where

@@ -1,6 +1,7 @@
 -- Two different sequences of each kind that the demand speaks of, and what they show.
 use Rattle.std.specs.Prelude.{Bool, true, false, List, [], ◌∷◌, ◌++◌, ◌≡◌, ℕ, replicate}
-use Rattle.basis.specs.Answer.{ChecksumFailed, done, refused}
+use Rattle.basis.specs.Answer.{done, refused}
+use Rattle.basis.specs.declared.refusal.Refusal.TheVariants.{ChecksumFailed}
 use Rattle.service_list.specs.Section.{list_of}
 use Rattle.service_list.specs.ServiceList.{list_absent, list_present}
 use Rattle.reader.specs.Shown.{fresh_reader}

@@ -33,6 +33,7 @@ use Rattle.text_dump.proofs.TextMost.{dump_most}
 use Rattle.text.specs.Whole.{most_input}
 use Rattle.text_dump.specs.Dump.{dump_text, newly_read, read_lines}
 use Rattle.text_dump.specs.Lines.{
+  rate_shown,
   active_line,
   caption_lines,
   entry_line,
@@ -82,7 +83,7 @@ module _ (p : List ℕ) (short : length p ≤ most_input) where
 -- the text of what is shown: these lines, and behind them the mark's
 abbrev in_front : CDPParser → List ℕ → List (List ℕ)
 in_front s handed_out =
-    rate_line s.framerate.framerate
+    rate_line (rate_shown s.framerate)
     ∷ sequence_line s.sequence
     ∷ time_line s.time_code
     ∷ (caption_lines handed_out ++ service_lines s.service_info)

@@ -54,9 +54,9 @@ cases =
       p7 = reads refl refl refl (λ s. refl);
       p8 = λ minutes seconds frames h. rw h;
       p8_packet = reads refl refl refl (λ s. refl);
-      p9 = refl;
-      p10 = refl;
+      p9 = record { gives = refl; has = refl };
+      p10 = record { gives = refl; has = refl };
       p10_field_2 = refl;
-      p11 = refl;
+      p11 = record { gives = refl; has = refl };
       p12 = λ buffer room. simp (le-leb _ _ room);
     }

@@ -7,10 +7,11 @@ use Prim.Native.Nat.{ℕ, ◌-◌}
 use lib.Dec.{eqb, leb, ltb}
 use lib.ListN.{length}
 use Rattle.basis.proofs.Holds.{So, held, none, where_there}
+use Rattle.basis.proofs.Readings.{answer_read, answer_written, part_answered}
 use Rattle.basis.proofs.Verdicts.{refused_not_done, refused_shows}
-use Rattle.basis.specs.Check.{CheckOf, VerdictOf, WriteVerdict, answer, broken, clear, room_check, verdict}
+use Rattle.basis.specs.Check.{Check, CheckOf, VerdictOf, WriteVerdict, answer, broken, clear, read_answer, read_as, room_check, verdict}
 use Rattle.basis.specs.Bytes.{over}
-use Rattle.basis.specs.Code.{fitting, put, put_answer}
+use Rattle.basis.specs.Code.{fitting, part_answer, put, put_answer}
 use Rattle.values_time.specs.Time as Time
 use Rattle.service_entry.specs.Entry as Entry
 use Rattle.basis.specs.Writing.{written}
@@ -22,13 +23,13 @@ use Rattle.service_entries.specs.Code.{entries_read, section_outcome}
 use Rattle.service_list.specs.SectionWriting.{section_bytes, section_written, value_checks}
 use Rattle.service_list.specs.ServiceList.{list_absent}
 use Rattle.service_list.specs.Code.{value_answer}
-use Rattle.reader.proofs.PacketShown.{checks_answer}
 use Rattle.reader.proofs.Refusals as Refusals
 use Rattle.read_captions.specs.Code as ReadCaptions
 use Rattle.read_header.specs.Code as ReadHeader
 use Rattle.read_time_code.specs.Code as ReadTimeCode
 use Rattle.read_closing.specs.Code as ReadClosing
 use Rattle.read_services.specs.Code as ReadServices
+use Rattle.read_packet.specs.Code as ReadPacket
 use Rattle.read_packet.specs.Packet.{captions_length}
 use Rattle.reader.specs.Code.{packet_read}
 use Rattle.reader.specs.Reader.{read}
@@ -84,6 +85,19 @@ without : {P : Type 0} (beside : ℕ → ℕ → Bool) {cs : List (CheckOf P)} �
     → in_table false beside (answer (verdict cs) 0) ≡ true
 without beside {cs} a = in_table_lem false beside (verdict cs) 0 a.it refl
 
+-- so what reading gives, of a call that gives a length with 0, of one that gives 0, and of a part
+read_with_length : {cs : List Check} → Proper differ cs → {A : Type 0} (value : A) (length : ℕ)
+    → in_table true differ (read_answer (read_as (verdict cs) value) length) ≡ true
+read_with_length {cs} a value length = rw (answer_read (verdict cs) value length) (with_length differ a length)
+
+read_without : (beside : ℕ → ℕ → Bool) {cs : List Check} → Proper beside cs → {A : Type 0} (value : A)
+    → in_table false beside (read_answer (read_as (verdict cs) value) 0) ≡ true
+read_without beside {cs} a value = rw (answer_read (verdict cs) value 0) (without beside a)
+
+part_in_table : {cs : List Check} → Proper smaller cs → (size : ℕ)
+    → in_table false smaller (part_answer (read_as (verdict cs) size)) ≡ true
+part_in_table {cs} a size = rw (part_answered (verdict cs) size) (without smaller a)
+
 -- a writer that is refused leaves the buffer as it was
 left : (v : WriteVerdict) (bytes buffer : List ℕ) → refuses (written v bytes buffer).answer
     → (written v bytes buffer).buffer ≡ buffer
@@ -101,22 +115,23 @@ pub first_demand : FirstDemand
 unfolding read packet_read ReadHeader.header_read ReadTimeCode.time_code_read ReadCaptions.captions_tested
     ReadServices.services_tested ReadClosing.closing_read section_outcome entries_read Section.section_read Entry.entry_read
     Time.time_read Time.time_written Writing.packet_written section_written entry_written value_answer set_service_info
-    WriteChecks.others_write_tested put_answer put text_written
+    WriteChecks.others_write_tested put_answer put text_written ReadPacket.checked_read
 first_demand =
     record {
       packet_read = λ s p lent. with_length differ (read_proper p lent) (captions_length p);
-      section_read = λ d. without differ (section_proper d);
-      entry_read = λ bytes. without never (entry_proper never bytes);
-      time_read = λ hours minutes seconds frames. without never (time_proper never hours minutes seconds frames);
-      header_read = λ p. without differ (header_proper p);
-      time_code_read = λ p present i. without smaller (where_there present (time_code_proper smaller shorter_smaller p i));
-      captions_tested = λ p present i. without smaller (where_there present (captions_proper smaller shorter_smaller p i));
-      services_tested = λ p f i. without smaller (where_there f.svc_info (services_proper smaller shorter_smaller p f i));
-      closing_read = λ p sequence i. without smaller (closing_proper smaller shorter_smaller p sequence i);
-      section_tested = λ d. without differ (section_proper d);
-      entries_read = λ d. without differ (section_proper d);
-      checked_read = λ p. rw (checks_answer p) (with_length differ (packet_proper p) (captions_length p));
-      stateless_read = λ p. with_length differ (packet_proper p) (captions_length p);
+      section_read = λ d. read_without differ (section_proper d) _;
+      entry_read = λ bytes. read_without never (entry_proper never bytes) _;
+      time_read = λ hours minutes seconds frames. read_without never (time_proper never hours minutes seconds frames) _;
+      header_read = λ p. read_without differ (header_proper p) _;
+      time_code_read = λ p present i.
+          read_without smaller (where_there present (time_code_proper smaller shorter_smaller p i)) _;
+      captions_tested = λ p present i. part_in_table (where_there present (captions_proper smaller shorter_smaller p i)) _;
+      services_tested = λ p f i. part_in_table (where_there f.svc_info (services_proper smaller shorter_smaller p f i)) _;
+      closing_read = λ p sequence i. read_without smaller (closing_proper smaller shorter_smaller p sequence i) tt;
+      section_tested = λ d. read_without differ (section_proper d) tt;
+      entries_read = λ d. read_without differ (section_proper d) _;
+      checked_read = λ p. read_with_length (packet_proper p) _ (captions_length p);
+      stateless_read = λ p. read_with_length (packet_proper p) _ (captions_length p);
       packet_answered = λ w rate captions buffer. with_length never
           (with_room never (Checks.packet_write_checks rate w.time_code w.service_info (length captions))
           (packet_write_proper never rate w.time_code w.service_info (length captions))
@@ -128,7 +143,8 @@ first_demand =
           (length (section_bytes l));
       entry_answered = λ e buffer.
           with_length never (with_room never (entry_check e ∷ []) (entry_write_proper never e) 6 buffer) 6;
-      time_answered = λ t. without never (time_write_proper never t);
+      time_answered = λ t.
+          rw (answer_written (verdict (Time.time_write_checks t)) (Time.time_bytes t) 0) (without never (time_write_proper never t));
       list_added = λ l e. without never (overflow_proper never (ltb l.count places));
       list_measured = λ l. with_length never (overflow_proper never (leb l.count places)) (section_length l.count);
       list_tested = λ l. without never (value_proper never l);

@@ -1,13 +1,12 @@
 -- The footer read back: the sequence again, and the checksum of all before it.
 -- Assumes nothing.
 use mathlib.Core.List.{List, [], ◌∷◌, ◌++◌}
-use mathlib.Core.Path.{◌≡◌, ◌∙◌, sym, ap}
+use mathlib.Core.Path.{◌≡◌, ◌∙◌, sym}
 use Prim.Native.Nat.{ℕ, ◌+◌, ◌*◌}
 use native.Mathlib.Nat.{add-zero}
 use native.Mathlib.Omega.{arith}
-use lib.Dec.{eqb}
 use lib.ListN.{drop, length}
-use Rattle.basis.proofs.Verdicts.{done_clear}
+use Rattle.basis.proofs.Readings.{given_clear}
 use Rattle.basis.specs.Bytes.{byte}
 use Rattle.basis.specs.Check.{clear, verdict}
 use Rattle.values.specs.Layout.{footer_id, footer_size}
@@ -16,7 +15,6 @@ use Rattle.read_closing.specs.Closing.{checksum_of, closing_checks}
 use Rattle.read_closing.specs.Code.{closing_read}
 use Rattle.write_bytes.specs.PacketWriting.{footer_bytes}
 use Rattle.basis.proofs.Places.{byte_on}
-use Rattle.basis.specs.declared.tested.Outcome.{Outcome}
 
 module _ (p : List ℕ) (i sequence sum : ℕ) (h : drop i p ≡ footer_bytes sequence ++ sum ∷ [])
     (size : length p ≡ i + footer_size) (right : sum ≡ checksum_of p) where
@@ -34,4 +32,4 @@ module _ (p : List ℕ) (i sequence sum : ℕ) (h : drop i p ≡ footer_bytes se
   closing_clear =
       let whole = footer_whole p sequence i (omega (arith, size)) same (byte_on p i bytes h 3 ∙ right) in
       let read = whole ∙ footer_reached p sequence i i (begins p sequence i (omega (arith, size))) id in
-      done_clear (verdict (closing_checks p sequence i)) 0 (ap (λ (o : Outcome). eqb o.answer.number 0) (sym read))
+      given_clear _ (verdict (closing_checks p sequence i)) tt tt (sym read)

@@ -1,51 +1,40 @@
 -- The header read back: rate, flags, sequence.
 -- Assumes nothing.
-use mathlib.Core.Bool.{Bool, true, false, cond, false≢true}
-use mathlib.Core.List.{List, [], ◌∷◌, ◌++◌}
-use mathlib.Core.Path.{◌≡◌, ◌∙◌, sym, refl, ap}
+use mathlib.Core.Bool.{Bool, true, false, false≢true}
+use mathlib.Core.List.{List, ◌++◌}
+use mathlib.Core.Path.{◌≡◌, ◌∙◌, ap}
 use Prim.Native.Nat.{ℕ, ◌+◌, ◌*◌, ◌/◌, ◌%◌, ◌≤◌}
 use native.Mathlib.Omega.{arith}
 use borrow.Author.Tests.{eq-eqb, eqb-true, le-leb}
 use lib.Dec.{eqb}
 use lib.ListN.{length}
+use Rattle.std.specs.Prelude.{Option, Some, None}
+use Rattle.std.specs.Option.{option_eq}
 use Rattle.basis.proofs.Bools.{and_left, and_right}
 use Rattle.basis.specs.Check.{clear, verdict}
 use Rattle.values.specs.Flags.{flag_byte, flags_of}
 use Rattle.basis.specs.Mask.{flag, under, x80, x40, x20, x10, x08, x04, x02}
-use Rattle.values.specs.Rate.{find, from_id, known, present, rates}
+use Rattle.values.proofs.Rates.{is_row, same_rate}
+use Rattle.values.specs.Rate.{from_id, known}
 use Rattle.service_list.proofs.SectionBack.{bit_back}
 use Rattle.read_header.specs.Header.{header_checks, rate_of, sequence_in}
 use Rattle.write_checks.proofs.Tests.{known_id}
 use Rattle.write_bytes.specs.PacketWriting.{header_bytes}
 use Rattle.values.specs.declared.flags.Flags.{Flags}
 use Rattle.values.specs.declared.framerate.Framerate.{Framerate}
-use Rattle.values.specs.declared.framerate.MaybeFramerate.{MaybeFramerate}
 
--- a row that is found has the id that was looked for
-step : (id : ℕ) (r : Framerate) (later : MaybeFramerate) (same : Bool) → eqb id r.id ≡ same
-    → (later.present ≡ true → later.framerate.id ≡ id)
-    → (cond same (present r) later).present ≡ true → (cond same (present r) later).framerate.id ≡ id
-step id r later true e rest h = sym (eqb-true _ _ e)
-step id r later false e rest h = rest h
+-- a rate that can be written is the one that its id names
+same_so : (m : Option Framerate) (a : Framerate) → option_eq same_rate m (Some a) ≡ true → m ≡ Some a
+same_so None a h = absurd (false≢true h)
+same_so (Some r) a h =
+    let both = and_right (eqb r.id a.id) _ h in
+    let id : r.id ≡ a.id = eqb-true _ _ (and_left _ _ h) in
+    let numer : r.numer ≡ a.numer = eqb-true _ _ (and_left _ _ both) in
+    let denom : r.denom ≡ a.denom = eqb-true _ _ (and_right (eqb r.numer a.numer) _ both) in
+    rw (← id, ← numer, ← denom)
 
-found_id : (id : ℕ) (rs : List Framerate) → (find id rs).present ≡ true → (find id rs).framerate.id ≡ id
-found_id id [] h = absurd (false≢true h)
-found_id id (r ∷ rs) h = step id r (find id rs) (eqb id r.id) refl (found_id id rs) h
-
--- so a rate that can be written is the one that its id names
-same_rate : (m : MaybeFramerate) (a : Framerate) → m.present ≡ true → m.framerate.id ≡ a.id
-    → m.framerate.numer ≡ a.numer
-    → m.framerate.denom ≡ a.denom → m ≡ present a
-same_rate m a p i n d = rw (← p, ← i, ← n, ← d)
-
-pub rate_known : (a : Framerate) → known a ≡ true → from_id a.id ≡ present a
-unfolding from_id
-rate_known a h =
-    let m : MaybeFramerate = find a.id rates in
-    let there : m.present ≡ true = and_left _ _ h in
-    let both = and_right m.present _ h in
-    same_rate m a there (found_id a.id rates there) (eqb-true _ _ (and_left _ _ both))
-    (eqb-true _ _ (and_right (eqb m.framerate.numer a.numer) _ both))
+pub rate_known : (a : Framerate) → known a ≡ true → from_id a.id ≡ Some a
+rate_known a h = same_so (from_id a.id) a (is_row a ∙ h)
 
 -- the upper three flags stand above five bits, the lower three in these
 record Upper (a b c : Bool) (n whole : ℕ) : Type 0 where
@@ -125,7 +114,7 @@ module _ (size : ℕ) (rate : Framerate) (f : Flags) (sequence : ℕ) (rest : Li
   sequence_back = omega arith
 
   module _ (rated : known rate ≡ true) where
-    pub rate_back : rate_of p ≡ present rate
+    pub rate_back : rate_of p ≡ Some rate
     rate_back =
         let small : rate.id ≤ 8 = known_id rate rated in
         let high : (rate.id * 16 + 15) / 16 % 16 ≡ rate.id = omega arith in

@@ -1,13 +1,14 @@
 -- The places: each rule's is inside its input, and a part's checks are moved to where the part stands.
 -- Assumes nothing.
-use mathlib.Core.Bool.{Bool, true, false, cond, ◌&&◌, false≢true}
+use mathlib.Core.Bool.{Bool, true, false, cond, ◌&&◌, false≢true, true≢false}
 use mathlib.Core.List.{List, [], ◌∷◌, ◌++◌}
-use mathlib.Core.Path.{◌∙◌, ◌≡◌, ap, ap₂, refl, sym}
+use mathlib.Core.Path.{◌∙◌, ◌≡◌, ap, ap₂, refl}
 use Prim.Native.Nat.{ℕ, zero, suc, ◌+◌, ◌-◌, ◌*◌, ◌≤◌, ◌<◌}
 use native.Mathlib.Omega.{arith}
 use borrow.Author.Tests.{le-leb}
 use lib.Dec.{eqb, leb, ltb}
 use lib.ListN.{length, take}
+use Rattle.basis.proofs.Readings.{answer_read, place_read}
 use Rattle.basis.proofs.Holds.{Inside, So, held, not_eleven, placed_in, where_there}
 use Rattle.basis.proofs.Verdicts.{
   and_then,
@@ -15,7 +16,6 @@ use Rattle.basis.proofs.Verdicts.{
   append_second,
   moved_kept,
   moved_refused,
-  moved_shows,
   moved_verdict,
   refused_behind,
   refused_not_done,
@@ -36,6 +36,9 @@ use Rattle.basis.specs.Check.{
   clear,
   moved,
   place_of,
+  read_answer,
+  read_as,
+  read_place,
   unplaced,
   verdict,
   when,
@@ -56,10 +59,6 @@ use Rattle.read_services.proofs.ServicesReads.{services_inside}
 use Rattle.read_services.specs.Code.{services_tested}
 use Rattle.read_time_code.proofs.TimeCodeReads.{time_code_inside}
 use Rattle.read_time_code.specs.Code.{time_code_read}
-use Rattle.reader.proofs.PacketShown.{checks_answer, checks_place}
-use Rattle.basis.specs.Code.{outcome_at}
-use Rattle.basis.specs.declared.answer.Answer.{Answer}
-use Rattle.basis.specs.declared.tested.Outcome.{Outcome}
 use Rattle.service_entry.specs.Entry.{entry_checks, entry_read}
 use Rattle.service_entries.proofs.SectionPlaces.{section_inside}
 use Rattle.service_entries.specs.Entries.{checks_at, count_of, entry_list_checks, frame_checks, number_check, section_checks}
@@ -71,6 +70,7 @@ use Rattle.read_packet.proofs.PacketReads.{in_order}
 use Rattle.read_packet.specs.Packet.{captions_at, captions_length, packet_checks, services_at, time_code_at}
 use Rattle.read_services.specs.Services.{flags_check, services_checks}
 use Rattle.read_time_code.specs.TimeCode.{time_code_checks}
+use Rattle.read_packet.specs.Code.{checked_read}
 use Rattle.reader.specs.Code.{packet_read}
 use Rattle.reader.specs.Reader.{caption_room_check, read, read_checks}
 use Rattle.theorem_packet.specs.FirstDemand.{refuses}
@@ -80,6 +80,7 @@ use Rattle.theorem_packet.specs.Places.{
   before_section,
   own_entry,
   own_section,
+  read_stands,
   stands_in,
   without_places,
 }
@@ -115,9 +116,13 @@ stands sizes size (broken rule) count h =
     rw (refused_not_done rule.refusal, not_eleven sizes size (broken rule) count h)
     (stands_so sizes (eqb number 1) (eqb rule.at.place size) (leb number 9 && ltb rule.at.place size) h)
 
-inside : (size : ℕ) {cs : List Check} → Inside size cs → (count : ℕ)
-    → stands_in size (answer (verdict cs) count) (place_of (verdict cs)) ≡ true
-inside size {cs} a count = stands true size (verdict cs) count a.it
+-- so what reading gives
+gives : (sizes : Bool) (size : ℕ) {A : Type 0} (v : Verdict) (value : A) → held (So (placed_in sizes size)) v
+    → read_stands size (read_as v value) ≡ true
+gives sizes size v value h = rw (answer_read v value 0, place_read v value) (stands sizes size v 0 h)
+
+inside : (size : ℕ) {A : Type 0} {cs : List Check} → Inside size cs → (value : A) → read_stands size (read_as (verdict cs) value) ≡ true
+inside size {cs} a value = gives true size (verdict cs) value a.it
 
 -- rule 1 before the others
 with_room : (enough : Bool) (v : Verdict) (room count size : ℕ) → held (So (placed_in true size)) v
@@ -126,12 +131,28 @@ with_room : (enough : Bool) (v : Verdict) (room count size : ℕ) → held (So (
 with_room true v room count size h = stands true size v count h
 with_room false v room count size h = refl
 
+-- a section and an entry answer as their verdicts do, at the same place
+section_answer : (d : List ℕ) → read_answer (section_read d) 0 ≡ answer (verdict (section_checks d)) 0
+unfolding section_read
+section_answer d = answer_read (verdict (section_checks d)) _ 0
+
+section_place : (d : List ℕ) → read_place (section_read d) ≡ place_of (verdict (section_checks d))
+unfolding section_read
+section_place d = place_read (verdict (section_checks d)) _
+
+entry_answer : (e : List ℕ) → read_answer (entry_read e) 0 ≡ answer (verdict (entry_checks e)) 0
+unfolding entry_read
+entry_answer e = answer_read (verdict (entry_checks e)) _ 0
+
+entry_place : (e : List ℕ) → read_place (entry_read e) ≡ place_of (verdict (entry_checks e))
+unfolding entry_read
+entry_place e = place_read (verdict (entry_checks e)) _
+
 -- what a refused part gives where it stands: its own answer, at its own place behind the caller's
 refused_there : (from : ℕ) (v : Verdict) (count : ℕ) → eqb (answer v 0).number 0 ≡ false
     → (answer (moved_verdict from v) count ≡ answer v 0) × (place_of (moved_verdict from v) ≡ from + place_of v)
-refused_there from v count h =
-    let both = moved_shows (λ (a : Answer) (place none : ℕ). outcome_at a place) from v count 0 0 h in
-    (ap (λ (o : Outcome). o.answer) (sym both), ap (λ (o : Outcome). o.place) (sym both))
+refused_there from clear count h = absurd (true≢false h)
+refused_there from (broken rule) count h = (refl, refl)
 
 -- a section in a packet
 module _ (p : List ℕ) (on : (flags_in p).svc_info ≡ true) (kept : verdict (before_section p) ≡ clear) where
@@ -169,13 +190,15 @@ module _ (p : List ℕ) (on : (flags_in p).svc_info ≡ true) (kept : verdict (b
       in_order p ∙ rw (header, timed, captioned, served) (refused_stays (moved_verdict i own) _ 0 moves)
 
 section_in_packet : (s : CDPParser) (p : List ℕ) (room : ℕ) → caption_room ≤ room → (flags_in p).svc_info ≡ true
-    → verdict (before_section p) ≡ clear → refuses (section_read (own_section p)).answer
-    → ((read s p room).answer ≡ (section_read (own_section p)).answer)
-    × ((read s p room).place ≡ services_at p + (section_read (own_section p)).place)
-unfolding read section_read
+    → verdict (before_section p) ≡ clear → refuses (read_answer (section_read (own_section p)) 0)
+    → ((read s p room).answer ≡ read_answer (section_read (own_section p)) 0)
+    × ((read s p room).place ≡ services_at p + read_place (section_read (own_section p)))
+unfolding read
 section_in_packet s p room enough on kept h =
-    let both = refused_there (services_at p) (own p on kept) (captions_length p) h in
-    simp (le-leb _ _ enough, section_is p on kept h) both
+    let undone : eqb (answer (own p on kept) 0).number 0 ≡ false = rw (section_answer (own_section p)) at h in
+    let both = refused_there (services_at p) (own p on kept) (captions_length p) undone in
+    rw (section_answer (own_section p), section_place (own_section p))
+    (simp (le-leb _ _ enough, section_is p on kept undone) both)
 
 -- an entry in a section: those in front of it are kept
 kept_on : (d : List ℕ) (at k n : ℕ) → k < n → verdict (entry_list_checks d at k) ≡ clear
@@ -236,43 +259,49 @@ module _ (d : List ℕ) (k : ℕ) (counted : k < count_of d) (kept : verdict (be
       (moved_refused at (moved_verdict 1 own_rules) moves))
 
 entry_in_section : (d : List ℕ) (k : ℕ) → k < count_of d → verdict (before_entry d k) ≡ clear
-    → refuses (entry_read (own_entry d k)).answer
-    → ((section_read d).answer ≡ (entry_read (own_entry d k)).answer)
-    × ((section_read d).place ≡ section_length k + 1 + (entry_read (own_entry d k)).place)
-unfolding section_read entry_read
+    → refuses (read_answer (entry_read (own_entry d k)) 0)
+    → (read_answer (section_read d) 0 ≡ read_answer (entry_read (own_entry d k)) 0)
+    × (read_place (section_read d) ≡ section_length k + 1 + read_place (entry_read (own_entry d k)))
 entry_in_section d k counted kept h =
     let own : Verdict = verdict (entry_checks (own_entry d k)) in
-    let inner = refused_there 1 own 0 h in
-    let outer = refused_there (section_length k) (moved_verdict 1 own) 0 (moved_refused 1 own h) in
+    let undone : eqb (answer own 0).number 0 ≡ false = rw (entry_answer (own_entry d k)) at h in
+    let inner = refused_there 1 own 0 undone in
+    let outer = refused_there (section_length k) (moved_verdict 1 own) 0 (moved_refused 1 own undone) in
     let further : section_length k + (1 + place_of own) ≡ section_length k + 1 + place_of own = omega arith in
-    rw (entry_is d k counted kept h) (
+    rw (
+      section_answer d,
+      section_place d,
+      entry_answer (own_entry d k),
+      entry_place (own_entry d k),
+      entry_is d k counted kept undone,
+    ) (
       outer.0 ∙ inner.0,
       outer.1 ∙ ap (λ (n : ℕ). section_length k + n) inner.1 ∙ further,
     )
 
 pub places : Places
 unfolding read packet_read section_read entry_read time_read header_read time_code_read captions_tested services_tested closing_read
-    section_outcome entries_read
+    section_outcome entries_read checked_read
 places =
     record {
       packet_stands = λ s p room.
           with_room (leb caption_room room) (verdict (packet_checks p)) room (captions_length p) (length p) (packet_inside p).it;
-      section_stands = λ d. inside (length d) (section_inside d) 0;
-      entry_stands = λ e. stands false entry_length (verdict (entry_checks e)) 0 (entry_within e).it;
-      time_stands = λ h m s f. stands false 4 (verdict (time_checks h m s f)) 0 (time_within h m s f).it;
-      header_stands = λ p. inside (length p) (header_inside p) 0;
-      time_code_stands = λ p present i. inside (length p) (where_there present (time_code_inside p i)) 0;
-      captions_stand = λ p present i. inside (length p) (where_there present (captions_inside p i)) 0;
-      services_stand = λ p f i five. inside (length p) (where_there f.svc_info (services_inside p f i five)) 0;
-      closing_stands = λ p sequence i. inside (length p) (closing_inside p sequence i) 0;
-      section_test_stands = λ d. inside (length d) (section_inside d) 0;
-      entries_stand = λ d. inside (length d) (section_inside d) 0;
-      checked_stands = λ p. rw (checks_answer p, checks_place p) (inside (length p) (packet_inside p) (captions_length p));
-      stateless_stands = λ p. inside (length p) (packet_inside p) (captions_length p);
+      section_stands = λ d. inside (length d) (section_inside d) _;
+      entry_stands = λ e. gives false entry_length (verdict (entry_checks e)) _ (entry_within e).it;
+      time_stands = λ h m s f. gives false 4 (verdict (time_checks h m s f)) _ (time_within h m s f).it;
+      header_stands = λ p. inside (length p) (header_inside p) _;
+      time_code_stands = λ p present i. inside (length p) (where_there present (time_code_inside p i)) _;
+      captions_stand = λ p present i. inside (length p) (where_there present (captions_inside p i)) _;
+      services_stand = λ p f i five. inside (length p) (where_there f.svc_info (services_inside p f i five)) _;
+      closing_stands = λ p sequence i. inside (length p) (closing_inside p sequence i) tt;
+      section_test_stands = λ d. inside (length d) (section_inside d) tt;
+      entries_stand = λ d. inside (length d) (section_inside d) _;
+      checked_stands = λ p. inside (length p) (packet_inside p) _;
+      stateless_stands = λ p. inside (length p) (packet_inside p) _;
       section_in_packet = section_in_packet;
       entry_in_section = entry_in_section;
       packet_answers = λ s p room. answers_stay (read_checks p room) (captions_length p);
-      section_answers = λ d. answers_stay (section_checks d) 0;
-      entry_answers = λ e. answers_stay (entry_checks e) 0;
+      section_answers = λ d. section_answer d ∙ answers_stay (section_checks d) 0;
+      entry_answers = λ e. entry_answer e ∙ answers_stay (entry_checks e) 0;
       parts_stay = parts_stay;
     }

@@ -9,7 +9,8 @@ use borrow.Author.Tests.{eqb-false, leb-false, leb-true, lt-ltb, ne_eqb}
 use lib.Dec.{eqb, leb}
 use lib.ListN.{length}
 use Rattle.basis.proofs.Holds.{Holds, So, also, both, fixed, none, unless_found, where_moved, where_there}
-use Rattle.basis.specs.Answer.{InvalidFixedBits, InvalidServiceNumber, LengthMismatch, WouldOverflow, refused}
+use Rattle.basis.specs.Answer.{refused}
+use Rattle.basis.specs.declared.refusal.Refusal.TheVariants.{InvalidFixedBits, InvalidServiceNumber, LengthMismatch, WouldOverflow}
 use Rattle.basis.specs.Bytes.{byte}
 use Rattle.basis.specs.Check.{Check, CheckOf, RuleAt, WriteCheck, check, check_at, moved, room_check, size_check, when}
 use Rattle.basis.specs.declared.test.SizeTest.{SizeTest}

@@ -1,70 +1,48 @@
--- Nothing comes from bytes that were refused: what stands beside a refusal is the other value of its verdict.
+-- Nothing comes from bytes that were refused: a refusal is given in the place of a value.
 -- Assumes nothing.
-use mathlib.Core.Path.{◌≡◌, ◌∙◌, refl, sym}
-use mathlib.Core.Bool.{true, false, true≢false}
-use Prim.Native.Nat.{ℕ}
-use lib.Dec.{eqb}
-use Rattle.basis.proofs.Verdicts.{refused_shows}
-use Rattle.basis.specs.Check.{Verdict, answer, broken, clear, if_clear, verdict, when}
+use mathlib.Core.Path.{◌≡◌, refl}
+use mathlib.Core.Bool.{true≢false}
+use Rattle.std.specs.Prelude.{Result, Ok, Err, None}
+use Rattle.std.specs.Result.{result_ok}
+use Rattle.basis.specs.Check.{Verdict, broken, clear, read_answer, read_as, verdict}
+use Rattle.basis.specs.declared.refusal.Refused.{Refused}
 use Rattle.values_time.specs.Time as Time
 use Rattle.service_entry.specs.Entry as Entry
-use Rattle.service_entry.specs.Service.{filler}
-use Rattle.service_entries.specs.Entries as Entries
 use Rattle.service_entries.specs.Code as ServiceEntries
 use Rattle.service_list.specs.Section as Section
-use Rattle.service_list.specs.ServiceList.{empty}
-use Rattle.read_time_code.specs.TimeCode as TimeCode
 use Rattle.read_time_code.specs.Code as ReadTimeCode
 use Rattle.read_closing.proofs.FooterFound.{checksum_kept}
 use Rattle.read_header.specs.Header.{sequence_in}
-use Rattle.read_packet.proofs.PacketReads.{closing_of_packet, given}
+use Rattle.read_packet.proofs.PacketReads.{closing_of_packet}
 use Rattle.read_packet.specs.Code as ReadPacket
-use Rattle.read_packet.specs.Packet.{captions_length, closing_at, packet_checks}
+use Rattle.read_packet.specs.Packet.{closing_at, packet_checks}
 use Rattle.reader.proofs.Refusals.{list_only_from_accepted, no_list_from_bad_checksum}
 use Rattle.reader.specs.Code as ReaderCode
-use Rattle.reader.specs.Shown.{fresh_reader, shown_by}
 use Rattle.theorem_packet.specs.FirstDemand.{refuses}
 use Rattle.theorem_packet.specs.Refused.{NothingFromRefused}
-use Rattle.basis.specs.declared.answer.Answer.{Answer}
-use Rattle.read_packet.specs.declared.checked.Checked.{Checked}
 
--- beside a refusal stands the other value
-beside : {A : Type 0} (v : Verdict) (length : ℕ) (value other : A) → eqb (answer v length).number 0 ≡ false
-    → if_clear v value other ≡ other
-beside {A} v length value other h = sym (refused_shows (λ (a : Answer) (x : A). x) v length length value other h)
+nothing : {A : Type 0} (got : Result A Refused) → refuses (read_answer got 0) → result_ok got ≡ None
+nothing (Ok value) h = absurd (true≢false h)
+nothing (Err r) h = refl
 
-unless : {A : Type 0} (v : Verdict) (value other : A) → (v ≡ clear → ⊥) → if_clear v value other ≡ other
-unless clear value other h = absurd (h refl)
-unless (broken rule) value other h = refl
-
--- a packet that is refused before its list is made has no time code
-no_time_code : (v : Verdict) (length : ℕ) (shown : Checked) → eqb shown.answer.number 0 ≡ true
-    → refuses (given v length shown).answer → (given v length shown).time_code ≡ Time.time_absent
-no_time_code clear length shown done_so h = absurd (true≢false (sym done_so ∙ h))
-no_time_code (broken rule) length shown done_so h = refl
+unless : {A : Type 0} (v : Verdict) (value : A) → (v ≡ clear → ⊥) → result_ok (read_as v value) ≡ None
+unless clear value h = absurd (h refl)
+unless (broken rule) value h = refl
 
 pub nothing_from_refused : NothingFromRefused
-unfolding Entry.entry_read ServiceEntries.entries_read Section.section_read ReaderCode.packet_read Time.time_read
-    ReadTimeCode.time_code_read ReadPacket.checked_read
+unfolding ReaderCode.packet_read
 nothing_from_refused =
     record {
-      entry_read = λ bytes h. beside (verdict (Entry.entry_checks bytes)) 0 (Entry.entry_of bytes) filler h;
-      entries_read = λ d h.
-          beside (verdict (Entries.section_checks d)) 0
-          (Entries.filled (Entries.entries_of d 2 (Entries.count_of d))) Entries.fillers h;
-      section_read = λ d h. beside (verdict (Entries.section_checks d)) 0 (Section.list_of d) empty h;
-      stateless_read = λ p h. beside (verdict (packet_checks p)) (captions_length p) (shown_by p) fresh_reader h;
+      entry_read = λ bytes. nothing (Entry.entry_read bytes);
+      entries_read = λ d. nothing (ServiceEntries.entries_read d);
+      section_read = λ d. nothing (Section.section_read d);
+      stateless_read = λ p. nothing (ReaderCode.packet_read p);
       no_list = refl;
       packet_read = list_only_from_accepted;
-      time_read = λ hours minutes seconds frames h.
-          beside (verdict (Time.time_checks hours minutes seconds frames)) 0
-          (Time.time_of hours minutes seconds frames) Time.no_time h;
-      time_code_read = λ p present i h.
-          beside (verdict (when present (TimeCode.time_code_checks p i))) 0
-          (TimeCode.time_code_of p present i) Time.time_absent h;
-      checked_read =
-          λ p h. no_time_code (verdict (packet_checks p)) (captions_length p) (ReadPacket.checked_shown p) refl h;
-      bad_checksum = λ p wrong. unless (verdict (packet_checks p)) (shown_by p) fresh_reader
+      time_read = λ hours minutes seconds frames. nothing (Time.time_read hours minutes seconds frames);
+      time_code_read = λ p present i. nothing (ReadTimeCode.time_code_read p present i);
+      checked_read = λ p. nothing (ReadPacket.checked_read p);
+      bad_checksum = λ p wrong. unless (verdict (packet_checks p)) (ReaderCode.stateless_shown p)
           (λ v. wrong (checksum_kept p (sequence_in p) (closing_at p) (closing_of_packet p v)));
       bad_checksum_kept = no_list_from_bad_checksum;
     }

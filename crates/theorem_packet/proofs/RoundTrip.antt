@@ -8,12 +8,13 @@ use native.Mathlib.Omega.{arith}
 use borrow.Author.Tests.{le-leb}
 use lib.Dec.{eqb}
 use lib.ListN.{drop, length, length-take, take}
+use Rattle.std.specs.Prelude.{Some}
 use Rattle.basis.proofs.Verdicts.{and_clear}
-use Rattle.basis.specs.Answer.{ServiceNumberMismatch, refused}
+use Rattle.basis.specs.Answer.{refused}
+use Rattle.basis.specs.declared.refusal.Refusal.TheVariants.{ServiceNumberMismatch}
 use Rattle.basis.specs.Bytes.{over}
 use Rattle.basis.specs.Check.{answer, clear, if_clear, place_of, size_when, verdict, when}
 use Rattle.values.specs.Checksum.{negative, total}
-use Rattle.values.specs.Rate.{present}
 use Rattle.basis.proofs.Writes.{first_bytes}
 use Rattle.basis.specs.Writing.{Written}
 use Rattle.service_list.proofs.SectionBack.{named}
@@ -152,7 +153,7 @@ module _ (w : CDPWriter) (rate : Framerate) (captions : List ℕ)
       ∙ sequence_back (packet_length w.time_code w.service_info run) rate
       (held_flags w.time_code w.service_info) w.sequence first
 
-  rated : rate_of p ≡ present rate
+  rated : rate_of p ≡ Some rate
   rated =
       ap rate_of laid
       ∙ rate_back (packet_length w.time_code w.service_info run) rate

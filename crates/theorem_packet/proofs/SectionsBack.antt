@@ -7,14 +7,14 @@ use Prim.Native.Nat.{ℕ, ◌+◌, ◌*◌, ◌/◌, ◌%◌, ◌≤◌}
 use native.Mathlib.Nat.{add-zero}
 use native.Mathlib.Omega.{arith}
 use borrow.Author.Tests.{eq-eqb, le-leb, leb-true}
-use lib.Dec.{eqb}
 use lib.ListN.{drop, get_or, length}
 use Rattle.values_time.proofs.TimeWrites.{time_back}
-use Rattle.basis.proofs.Verdicts.{done_clear, done_value, kept_at_lem, moved_clear, moved_verdict, verdict_moved}
+use Rattle.basis.proofs.Readings.{given_clear, given_value}
+use Rattle.basis.proofs.Verdicts.{kept_at_lem, moved_clear, moved_verdict, verdict_moved}
 use Rattle.basis.specs.Bytes.{byte}
 use Rattle.basis.specs.Check.{Check, clear, verdict}
 use Rattle.values.specs.Layout.{captions_id, services_id, time_code_id, section_length, time_code_size}
-use Rattle.values_time.specs.Time.{no_time, time_bytes, time_checks, time_of, time_read, time_write_checks}
+use Rattle.values_time.specs.Time.{time_bytes, time_checks, time_of, time_read, time_write_checks}
 use Rattle.values_time.specs.Code.{InRange}
 use Rattle.service_list.proofs.SectionBack.{byte_back, count_back, list_back_lem, named, named_moved, section_verdict}
 use Rattle.service_list.proofs.SectionWrites.{section_length_lem}
@@ -32,7 +32,6 @@ use Rattle.theorem_packet.specs.RoundTrip.{captions_back, list_back}
 use Rattle.service_list.specs.declared.list.ServiceInfo.{ServiceInfo}
 use Rattle.values.specs.declared.flags.Flags.{Flags}
 use Rattle.values_time.specs.declared.time.TimeCode.{TimeCode}
-use Rattle.values_time.specs.declared.time.TimeCodeRead.{TimeCodeRead}
 
 -- a time code that can be written is in range
 in_range : (t : TimeCode) → verdict (time_write_checks t) ≡ clear → InRange t
@@ -52,16 +51,15 @@ module _ (p : List ℕ) (i : ℕ) (t : TimeCode) (rest : List ℕ) (h : drop i p
   four : verdict (time_checks (at 0) (at 1) (at 2) (at 3)) ≡ clear
   unfolding time_read
   four =
-      done_clear (verdict (time_checks (at 0) (at 1) (at 2) (at 3))) 0
-      (ap (λ (r : TimeCodeRead). eqb r.answer.number 0) (time_back t (in_range t right)))
+      given_clear _ (verdict (time_checks (at 0) (at 1) (at 2) (at 3))) (time_of (at 0) (at 1) (at 2) (at 3)) t
+      (time_back t (in_range t right))
 
   value : time_of (at 0) (at 1) (at 2) (at 3) ≡ t
   unfolding time_read
   value =
       sym
-      (done_value (verdict (time_checks (at 0) (at 1) (at 2) (at 3))) 0 (time_of (at 0) (at 1) (at 2) (at 3)) no_time
-      (ap (λ (r : TimeCodeRead). eqb r.answer.number 0) (time_back t (in_range t right))))
-      ∙ ap (λ (r : TimeCodeRead). r.time_code) (time_back t (in_range t right))
+      (given_value _ (verdict (time_checks (at 0) (at 1) (at 2) (at 3))) (time_of (at 0) (at 1) (at 2) (at 3)) t
+      (time_back t (in_range t right)))
 
   abbrev bytes : List ℕ
   bytes = time_code_id ∷ time_bytes t ++ rest

@@ -1,6 +1,7 @@
 -- The first demand: an answer of the table for everything, what a refusal writes, and what a reader's refusal leaves.
 use Rattle.std.specs.Prelude.{Bool, true, false, cond, not, ◌&&◌, ◌||◌, List, ◌≡◌, ℕ, ◌+◌, ◌*◌, ◌<◌, eqb, leb, ltb, length}
-use Rattle.basis.specs.Code.{put, put_answer}
+use Rattle.basis.specs.Check.{read_answer, write_answer}
+use Rattle.basis.specs.Code.{part_answer, put, put_answer}
 use Rattle.values_time.specs.Time as Time
 use Rattle.service_entry.specs.Entry as Entry
 use Rattle.service_entry.specs.Code as ServiceEntryCode
@@ -16,6 +17,7 @@ use Rattle.read_time_code.specs.Code as ReadTimeCode
 use Rattle.read_closing.specs.Code as ReadClosing
 use Rattle.read_services.specs.Code as ReadServices
 use Rattle.read_packet.specs.Code as ReadPacket
+use Rattle.read_packet.specs.Packet.{captions_length}
 use Rattle.reader.specs.Code as ReaderCode
 use Rattle.reader.specs.Reader.{buffer_after, cleared, read}
 use Rattle.write_checks.specs.Code as WriteChecks
@@ -64,21 +66,24 @@ refuses a = eqb a.number 0 ≡ false
 pub record FirstDemand : Type 0 where
   -- whatever is read, whatever the state and however many caption bytes are lent
   pub packet_read : (s : CDPParser) (p : List ℕ) (room : ℕ) → in_table true differ (read s p room).answer ≡ true
-  pub section_read : (d : List ℕ) → in_table false differ (Section.section_read d).answer ≡ true
-  pub entry_read : (bytes : List ℕ) → in_table false never (Entry.entry_read bytes).answer ≡ true
-  pub time_read : (hours minutes seconds frames : ℕ) → in_table false never (Time.time_read hours minutes seconds frames).answer ≡ true
+  pub section_read : (d : List ℕ) → in_table false differ (read_answer (Section.section_read d) 0) ≡ true
+  pub entry_read : (bytes : List ℕ) → in_table false never (read_answer (Entry.entry_read bytes) 0) ≡ true
+  pub time_read : (hours minutes seconds frames : ℕ)
+      → in_table false never (read_answer (Time.time_read hours minutes seconds frames) 0) ≡ true
   -- the parts of a packet, each read at any place, and the packet before its list is made and with no state
-  pub header_read : (p : List ℕ) → in_table false differ (ReadHeader.header_read p).answer ≡ true
+  pub header_read : (p : List ℕ) → in_table false differ (read_answer (ReadHeader.header_read p) 0) ≡ true
   pub time_code_read : (p : List ℕ) (present : Bool) (i : ℕ)
-      → in_table false smaller (ReadTimeCode.time_code_read p present i).answer ≡ true
+      → in_table false smaller (ReadTimeCode.time_code_answer p present i) ≡ true
   pub captions_tested : (p : List ℕ) (present : Bool) (i : ℕ)
-      → in_table false smaller (ReadCaptions.captions_tested p present i).answer ≡ true
-  pub services_tested : (p : List ℕ) (f : Flags) (i : ℕ) → in_table false smaller (ReadServices.services_tested p f i).answer ≡ true
-  pub closing_read : (p : List ℕ) (sequence i : ℕ) → in_table false smaller (ReadClosing.closing_read p sequence i).answer ≡ true
-  pub section_tested : (d : List ℕ) → in_table false differ (ServiceEntries.section_outcome d).answer ≡ true
-  pub entries_read : (d : List ℕ) → in_table false differ (ServiceEntries.entries_read d).answer ≡ true
-  pub checked_read : (p : List ℕ) → in_table true differ (ReadPacket.checked_read p).answer ≡ true
-  pub stateless_read : (p : List ℕ) → in_table true differ (ReaderCode.packet_read p).answer ≡ true
+      → in_table false smaller (part_answer (ReadCaptions.captions_tested p present i)) ≡ true
+  pub services_tested : (p : List ℕ) (f : Flags) (i : ℕ)
+      → in_table false smaller (part_answer (ReadServices.services_tested p f i)) ≡ true
+  pub closing_read : (p : List ℕ) (sequence i : ℕ)
+      → in_table false smaller (read_answer (ReadClosing.closing_read p sequence i) 0) ≡ true
+  pub section_tested : (d : List ℕ) → in_table false differ (read_answer (ServiceEntries.section_outcome d) 0) ≡ true
+  pub entries_read : (d : List ℕ) → in_table false differ (read_answer (ServiceEntries.entries_read d) 0) ≡ true
+  pub checked_read : (p : List ℕ) → in_table true differ (read_answer (ReadPacket.checked_read p) (captions_length p)) ≡ true
+  pub stateless_read : (p : List ℕ) → in_table true differ (read_answer (ReaderCode.packet_read p) (captions_length p)) ≡ true
   -- whatever is to be written, or held, and whatever buffer is lent
   pub packet_answered : (w : CDPWriter) (rate : Framerate) (captions buffer : List ℕ)
       → in_table true never (held_written w rate captions buffer).answer ≡ true
@@ -86,7 +91,7 @@ pub record FirstDemand : Type 0 where
       → in_table false never (WriteChecks.others_write_tested rate time run).answer ≡ true
   pub section_answered : (l : ServiceInfo) (buffer : List ℕ) → in_table true never (SectionWriting.section_written l buffer).answer ≡ true
   pub entry_answered : (e : ServiceEntry) (buffer : List ℕ) → in_table true never (EntryWriting.entry_written e buffer).answer ≡ true
-  pub time_answered : (t : TimeCode) → in_table false never (Time.time_written t).answer ≡ true
+  pub time_answered : (t : TimeCode) → in_table false never (write_answer (Time.time_written t) 0) ≡ true
   pub list_added : (l : ServiceInfo) (e : ServiceEntry) → in_table false never (ServiceList.added l e).answer ≡ true
   pub list_measured : (l : ServiceInfo) → in_table true never (ServiceList.byte_len l) ≡ true
   pub list_tested : (l : ServiceInfo) → in_table false never (ServiceListCode.value_answer l) ≡ true

@@ -1,6 +1,7 @@
 -- The place of every answer of reading: inside its input, and where the part stands that is refused.
-use Rattle.std.specs.Prelude.{Bool, true, cond, ◌&&◌, ◌||◌, List, [], ◌∷◌, ◌++◌, ◌≡◌, ℕ, ◌+◌, ◌≤◌, ◌<◌, eqb, leb, ltb, length, take}
-use Rattle.basis.specs.Check.{Check, WriteCheck, answer, check, clear, moved, verdict, when}
+use Rattle.std.specs.Prelude.{Bool, true, cond, ◌&&◌, ◌||◌, List, [], ◌∷◌, ◌++◌, ◌≡◌, ℕ, ◌+◌, ◌≤◌, ◌<◌, Result, eqb, leb, ltb, length, take}
+use Rattle.basis.specs.Check.{Check, WriteCheck, answer, check, clear, moved, read_answer, read_place, verdict, when}
+use Rattle.basis.specs.declared.refusal.Refused.{Refused}
 use Rattle.values.specs.Layout.{caption_room, section_head_size, section_length}
 use Rattle.values_time.specs.Time.{time_read}
 use Rattle.service_entry.specs.Entry.{entry_checks, entry_read}
@@ -31,6 +32,10 @@ abbrev pub stands_in : ℕ → Answer → ℕ → Bool
 stands_in size a place =
     cond (eqb a.number 0 || eqb a.number 11) (eqb place 0)
     (cond (eqb a.number 1) (eqb place size) (leb a.number 9 && ltb place size))
+
+-- so what a call of reading gives; the length that goes with 0 does not count for it
+abbrev pub read_stands : {A : Type 0} → ℕ → Result A Refused → Bool
+read_stands size got = stands_in size (read_answer got 0) (read_place got)
 
 -- the service section of a packet: its bytes, and what is tested in front of its own rules: header, time code and captions,
 -- and 7.1 to 7.3
@@ -64,39 +69,34 @@ pub record Places : Type 0 where
   -- whatever is read, whatever the state and however many caption bytes are lent
   pub packet_stands : (s : CDPParser) (p : List ℕ) (room : ℕ)
       → stands_in (length p) (read s p room).answer (read s p room).place ≡ true
-  pub section_stands : (d : List ℕ) → stands_in (length d) (section_read d).answer (section_read d).place ≡ true
-  pub entry_stands : (e : List ℕ) → stands_in entry_length (entry_read e).answer (entry_read e).place ≡ true
-  pub time_stands : (hours minutes seconds frames : ℕ)
-      → stands_in 4 (time_read hours minutes seconds frames).answer (time_read hours minutes seconds frames).place ≡ true
+  pub section_stands : (d : List ℕ) → read_stands (length d) (section_read d) ≡ true
+  pub entry_stands : (e : List ℕ) → read_stands entry_length (entry_read e) ≡ true
+  pub time_stands : (hours minutes seconds frames : ℕ) → read_stands 4 (time_read hours minutes seconds frames) ≡ true
   -- the parts of a packet, each read at any place; byte 4, at which services are refused for their flags, has to be there
-  pub header_stands : (p : List ℕ) → stands_in (length p) (header_read p).answer (header_read p).place ≡ true
-  pub time_code_stands : (p : List ℕ) (present : Bool) (i : ℕ)
-      → stands_in (length p) (time_code_read p present i).answer (time_code_read p present i).place ≡ true
-  pub captions_stand : (p : List ℕ) (present : Bool) (i : ℕ)
-      → stands_in (length p) (captions_tested p present i).answer (captions_tested p present i).place ≡ true
-  pub services_stand : (p : List ℕ) (f : Flags) (i : ℕ) → 5 ≤ length p
-      → stands_in (length p) (services_tested p f i).answer (services_tested p f i).place ≡ true
-  pub closing_stands : (p : List ℕ) (sequence i : ℕ)
-      → stands_in (length p) (closing_read p sequence i).answer (closing_read p sequence i).place ≡ true
+  pub header_stands : (p : List ℕ) → read_stands (length p) (header_read p) ≡ true
+  pub time_code_stands : (p : List ℕ) (present : Bool) (i : ℕ) → read_stands (length p) (time_code_read p present i) ≡ true
+  pub captions_stand : (p : List ℕ) (present : Bool) (i : ℕ) → read_stands (length p) (captions_tested p present i) ≡ true
+  pub services_stand : (p : List ℕ) (f : Flags) (i : ℕ) → 5 ≤ length p → read_stands (length p) (services_tested p f i) ≡ true
+  pub closing_stands : (p : List ℕ) (sequence i : ℕ) → read_stands (length p) (closing_read p sequence i) ≡ true
   -- a section tested and its entries read; the packet before its list is made and with no state
-  pub section_test_stands : (d : List ℕ) → stands_in (length d) (section_outcome d).answer (section_outcome d).place ≡ true
-  pub entries_stand : (d : List ℕ) → stands_in (length d) (entries_read d).answer (entries_read d).place ≡ true
-  pub checked_stands : (p : List ℕ) → stands_in (length p) (checked_read p).answer (checked_read p).place ≡ true
-  pub stateless_stands : (p : List ℕ) → stands_in (length p) (packet_read p).answer (packet_read p).place ≡ true
+  pub section_test_stands : (d : List ℕ) → read_stands (length d) (section_outcome d) ≡ true
+  pub entries_stand : (d : List ℕ) → read_stands (length d) (entries_read d) ≡ true
+  pub checked_stands : (p : List ℕ) → read_stands (length p) (checked_read p) ≡ true
+  pub stateless_stands : (p : List ℕ) → read_stands (length p) (packet_read p) ≡ true
   -- a section that the section reader refuses is refused in a packet with the same answer, at the section's place plus the
   -- section reader's own; so is an entry in a section, behind its header byte
   pub section_in_packet : (s : CDPParser) (p : List ℕ) (room : ℕ) → caption_room ≤ room → (flags_in p).svc_info ≡ true
-      → verdict (before_section p) ≡ clear → refuses (section_read (own_section p)).answer
-      → ((read s p room).answer ≡ (section_read (own_section p)).answer)
-      × ((read s p room).place ≡ services_at p + (section_read (own_section p)).place)
+      → verdict (before_section p) ≡ clear → refuses (read_answer (section_read (own_section p)) 0)
+      → ((read s p room).answer ≡ read_answer (section_read (own_section p)) 0)
+      × ((read s p room).place ≡ services_at p + read_place (section_read (own_section p)))
   pub entry_in_section : (d : List ℕ) (k : ℕ) → k < count_of d → verdict (before_entry d k) ≡ clear
-      → refuses (entry_read (own_entry d k)).answer
-      → ((section_read d).answer ≡ (entry_read (own_entry d k)).answer)
-      × ((section_read d).place ≡ section_length k + 1 + (entry_read (own_entry d k)).place)
+      → refuses (read_answer (entry_read (own_entry d k)) 0)
+      → (read_answer (section_read d) 0 ≡ read_answer (entry_read (own_entry d k)) 0)
+      × (read_place (section_read d) ≡ section_length k + 1 + read_place (entry_read (own_entry d k)))
   -- no answer hangs on a place: its number and both values are those of the same checks with their places left out, and where
   -- a part stands does not count for them
   pub packet_answers : (s : CDPParser) (p : List ℕ) (room : ℕ)
       → (read s p room).answer ≡ unplaced_answer (read_checks p room) (captions_length p)
-  pub section_answers : (d : List ℕ) → (section_read d).answer ≡ unplaced_answer (section_checks d) 0
-  pub entry_answers : (e : List ℕ) → (entry_read e).answer ≡ unplaced_answer (entry_checks e) 0
+  pub section_answers : (d : List ℕ) → read_answer (section_read d) 0 ≡ unplaced_answer (section_checks d) 0
+  pub entry_answers : (e : List ℕ) → read_answer (entry_read e) 0 ≡ unplaced_answer (entry_checks e) 0
   pub parts_stay : (from : ℕ) (cs : List Check) → without_places (moved from cs) ≡ without_places cs

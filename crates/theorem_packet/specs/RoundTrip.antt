@@ -1,10 +1,9 @@
 -- Demand 2's round trip: what was written, and the values that reading it gives back.
-use Rattle.std.specs.Prelude.{Bool, true, cond, ◌&&◌, List, ◌∷◌, ◌≡◌, ℕ, ◌+◌, ◌/◌, length, take}
+use Rattle.std.specs.Prelude.{Bool, true, cond, ◌&&◌, List, ◌∷◌, ◌≡◌, ℕ, ◌+◌, ◌/◌, Some, length, take}
 use Rattle.basis.specs.Answer.{done}
 use Rattle.basis.specs.Bytes.{over}
 use Rattle.basis.specs.Check.{size_when}
 use Rattle.values.specs.Layout.{header_size, section_head_size, section_length, time_code_size, triplet_size}
-use Rattle.values.specs.Rate.{present}
 use Rattle.service_list.specs.SectionBack.{all_of_three, before_field_two, names_field_two}
 use Rattle.service_entries.specs.Entries.{filled}
 use Rattle.service_list.specs.ServiceList.{list, list_absent, list_present}
@@ -47,7 +46,7 @@ services_back services = cond services.present (list_present (list_back services
 
 -- rate, time code and whether it is held, sequence, services and whether they are held; the caption-active mark is on
 abbrev pub shown_back : CDPWriter → Framerate → CDPParser
-shown_back w rate = state (present rate) (held_time w.time_code) w.sequence (services_back w.service_info) true
+shown_back w rate = state (Some rate) (held_time w.time_code) w.sequence (services_back w.service_info) true
 
 -- the captions, behind the two bytes that the reader hands out before them
 abbrev pub captions_back : List ℕ → List ℕ

@@ -1,6 +1,7 @@
 -- What writing a packet and reading it again gives, with nothing asked of the languages.
 use Rattle.std.specs.Prelude.{true, false, List, ◌≡◌, ℕ, ◌≤◌, eqb, length}
-use Rattle.basis.specs.Answer.{ServiceNumberMismatch, refused}
+use Rattle.basis.specs.Answer.{refused}
+use Rattle.basis.specs.declared.refusal.Refusal.TheVariants.{ServiceNumberMismatch}
 use Rattle.reader.specs.Reader.{cleared}
 use Rattle.theorem_packet.specs.RoundTrip.{ReadBack, field_two, field_two_at}
 use Rattle.writer.specs.Writer.{held_written}

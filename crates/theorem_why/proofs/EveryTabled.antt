@@ -10,7 +10,7 @@ use borrow.Author.Tests.{eq-eqb, eqb-true}
 use lib.Dec.{eqb, leb}
 use lib.ListN.{length}
 use Rattle.basis.proofs.Places.{byte_of_part}
-use Rattle.basis.specs.Answer.{InvalidFixedBits, InvalidServiceNumber, LengthMismatch}
+use Rattle.basis.specs.declared.refusal.Refusal.TheVariants.{InvalidFixedBits, InvalidServiceNumber, LengthMismatch}
 use Rattle.basis.specs.Bytes.{byte}
 use Rattle.basis.specs.Check.{Check, check_at, moved, moved_check, size_check}
 use Rattle.basis.specs.Mask.{all_clear, all_set, under, x20, x3e, x3f, x40, x80, xc0, xe0}

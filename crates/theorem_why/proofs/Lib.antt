@@ -12,3 +12,4 @@ pub mod NeverFailed
 pub mod FailedTest
 pub mod Promises
 pub mod Reasons
+mod Numbered

@@ -9,7 +9,7 @@ use native.Mathlib.Omega.{arith}
 use borrow.Author.Tests.{leb-false, leb-true}
 use lib.Dec.{eqb, leb}
 use lib.ListN.{length}
-use Rattle.basis.specs.Answer.{WrongMagic}
+use Rattle.basis.specs.declared.refusal.Refusal.TheVariants.{WrongMagic}
 use Rattle.basis.specs.Bytes.{byte, part}
 use Rattle.basis.specs.Check.{Check, check_at, moved, size_check, size_when, when}
 use Rattle.basis.specs.Mask.{under, x0f}

@@ -8,7 +8,7 @@ use Prim.Native.Nat.{ℕ, zero, suc, ◌+◌}
 use native.Mathlib.Omega.{arith}
 use Rattle.basis.proofs.Holds.{Holds, both, fixed, held, none, where_moved}
 use Rattle.basis.proofs.Verdicts.{and_then, verdict_append}
-use Rattle.basis.specs.Answer.{InvalidFixedBits, InvalidServiceNumber}
+use Rattle.basis.specs.declared.refusal.Refusal.TheVariants.{InvalidFixedBits, InvalidServiceNumber}
 use Rattle.basis.specs.Bytes.{byte}
 use Rattle.basis.specs.Check.{Check, Rule, Verdict, broken, check_at, clear, moved, verdict}
 use Rattle.basis.specs.Mask.{all_clear, all_set, x3e, x3f, x80}

@@ -1,6 +1,7 @@
 -- A check is the test that the table of tests has, made of the packet's own bytes at the check's place.
 use Rattle.std.specs.Prelude.{Bool, cond, ◌&&◌, List, [], ◌∷◌, ◌≡◌, ℕ, ◌+◌, ◌<◌, eqb, leb, length}
-use Rattle.basis.specs.Answer.{LengthMismatch, refused}
+use Rattle.basis.specs.Answer.{refused}
+use Rattle.basis.specs.declared.refusal.Refusal.TheVariants.{LengthMismatch}
 use Rattle.basis.specs.Bytes.{byte}
 use Rattle.basis.specs.Check.{Check}
 use Rattle.basis.specs.declared.test.SizeTest.{SizeTest}

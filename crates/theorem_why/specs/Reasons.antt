@@ -1,6 +1,7 @@
 -- What is promised of the reason that a desk is told.
 use Rattle.std.specs.Prelude.{Bool, true, false, ◌&&◌, List, [], ◌∷◌, ◌≡◌, ℕ, ◌+◌, ◌-◌, ◌≤◌, ◌<◌, eqb, ltb, length, set}
-use Rattle.basis.specs.Answer.{LengthMismatch, refused}
+use Rattle.basis.specs.Answer.{refused}
+use Rattle.basis.specs.declared.refusal.Refusal.TheVariants.{LengthMismatch}
 use Rattle.basis.specs.Bytes.{byte}
 use Rattle.basis.specs.Check.{Rule, broken, clear, verdict}
 use Rattle.basis.specs.Mask.{under, xe0}

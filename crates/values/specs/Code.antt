@@ -1,5 +1,5 @@
 -- Follows the code and not the rules: what stands beside a refusal, and the constants that are held.
-use Rattle.std.specs.Prelude.{ℕ, false, List, [], ◌∷◌}
+use Rattle.std.specs.Prelude.{ℕ, List, [], ◌∷◌}
 use Rattle.values.specs.Layout.{
   caption_room,
   caption_run,
@@ -15,7 +15,6 @@ use Rattle.values.specs.Layout.{
   time_code_size,
   triplet_size,
 }
-use Rattle.values.specs.declared.flags.Flags.{Flags}
 
 abbrev pub layout_constants : List ℕ
 layout_constants = least_size ∷ time_code_id ∷ captions_id ∷ services_id ∷ footer_id ∷ []
@@ -27,16 +26,3 @@ layout_sizes =
 -- each flag's bit: time code, captions, services, start, change, complete, caption service active, reserved
 abbrev pub bits : List ℕ
 bits = 0x80 ∷ 0x40 ∷ 0x20 ∷ 0x10 ∷ 0x08 ∷ 0x04 ∷ 0x02 ∷ 0x01 ∷ []
-
--- none of them, beside a refusal
-abbrev pub no_flags : Flags
-no_flags =
-    record {
-      time_code = false;
-      cc_data = false;
-      svc_info = false;
-      svc_info_start = false;
-      svc_info_change = false;
-      svc_info_complete = false;
-      caption_service_active = false;
-    }

@@ -14,8 +14,8 @@ fn sum(bytes: &[u8]) -> u8
     ensures { result ≡ total bytes.now % 256 }
 {
     let mut sum: u8 = 0;
-    for k in 0..bytes.len() {
-        sum = std::num::wrapping_add_u8(sum, bytes[k]);
+    for byte in bytes {
+        sum = std::num::wrapping_add_u8(sum, *byte);
     }
     sum
 }

@@ -1,7 +1,7 @@
 // Rule 4: the flag byte. Each constant is a mask with one bit, so that a quotient by it moves the bit down.
 ghost use Rattle.std.specs.Prelude.{◌≡◌};
 ghost use Rattle.values.specs.Flags.{flag_byte, flags_of};
-ghost use Rattle.values.specs.Code.{bits, no_flags};
+ghost use Rattle.values.specs.Code.{bits};
 
 use basis::flag;
 
@@ -33,18 +33,7 @@ impl Flags {
 
     pub const RESERVED: u8 = 0x01;
 
-    // No flag set, beside a refusal.
-    pub const NONE: Self = Self {
-        time_code: false,
-        cc_data: false,
-        svc_info: false,
-        svc_info_start: false,
-        svc_info_change: false,
-        svc_info_complete: false,
-        caption_service_active: false,
-    };
-
-    // Nothing calls these two: their contracts hold every constant above to the rules.
+    // Nothing calls this: its contract holds every constant above to the rules.
     fn held() -> [u8; 8]
         ensures { result ≡ bits }
     {
@@ -59,17 +48,13 @@ impl Flags {
             Self::RESERVED,
         ]
     }
+}
 
-    fn held_none() -> Self
-        ensures { result ≡ no_flags }
-    {
-        Self::NONE
-    }
+// Bit 01 is not read.
+impl From<u8> for Flags {
+    ghost from_gives = { λ byte flags. flags ≡ flags_of byte };
 
-    // Bit 01 is not read.
-    pub fn from_byte(byte: u8) -> Self
-        ensures { result ≡ flags_of byte }
-    {
+    fn from(byte: u8) -> Self {
         Self {
             time_code: byte / Self::TIME_CODE_PRESENT % 2 == 1,
             cc_data: byte / Self::CC_DATA_PRESENT % 2 == 1,
@@ -80,18 +65,20 @@ impl Flags {
             caption_service_active: byte / Self::CAPTION_SERVICE_ACTIVE % 2 == 1,
         }
     }
+}
 
-    // Bits 02 and 01 are always set, whatever the flag for 02 is.
-    pub fn to_byte(self) -> u8
-        ensures { result ≡ flag_byte self }
-    {
-        flag(self.time_code, Self::TIME_CODE_PRESENT)
-            + flag(self.cc_data, Self::CC_DATA_PRESENT)
-            + flag(self.svc_info, Self::SVC_INFO_PRESENT)
-            + flag(self.svc_info_start, Self::SVC_INFO_START)
-            + flag(self.svc_info_change, Self::SVC_INFO_CHANGE)
-            + flag(self.svc_info_complete, Self::SVC_INFO_COMPLETE)
-            + Self::CAPTION_SERVICE_ACTIVE
-            + Self::RESERVED
+// Bits 02 and 01 are always set, whatever the flag for 02 is.
+impl From<Flags> for u8 {
+    ghost from_gives = { λ flags byte. byte ≡ flag_byte flags };
+
+    fn from(flags: Flags) -> Self {
+        flag(flags.time_code, Flags::TIME_CODE_PRESENT)
+            + flag(flags.cc_data, Flags::CC_DATA_PRESENT)
+            + flag(flags.svc_info, Flags::SVC_INFO_PRESENT)
+            + flag(flags.svc_info_start, Flags::SVC_INFO_START)
+            + flag(flags.svc_info_change, Flags::SVC_INFO_CHANGE)
+            + flag(flags.svc_info_complete, Flags::SVC_INFO_COMPLETE)
+            + Flags::CAPTION_SERVICE_ACTIVE
+            + Flags::RESERVED
     }
 }

@@ -9,6 +9,6 @@ mod sequence;
 
 pub use checksum::checksum_byte;
 pub use flags::Flags;
-pub use framerate::{Framerate, MaybeFramerate};
+pub use framerate::Framerate;
 pub use layout::Packet;
 pub use sequence::{sequence_bytes, sequence_count};

@@ -2,38 +2,41 @@
 -- and where the place of what is refused stands.
 -- Assumes nothing.
 use mathlib.Core.Bool.{false}
-use mathlib.Core.Path.{◌≡◌, refl}
+use mathlib.Core.Path.{◌≡◌, ◌∙◌, ap, refl, sym}
 use Prim.Native.Nat.{ℕ, ◌/◌, ◌%◌, ◌≤◌}
 use borrow.Author.Tests.{eq-eqb, ne_eqb}
+use Rattle.std.specs.Prelude.{Ok, Err}
 use Rattle.basis.proofs.Holds.{Within, fixed, none, place_most}
-use Rattle.basis.specs.Answer.{done}
-use Rattle.basis.specs.Check.{verdict}
-use Rattle.values_time.specs.Code.{refused_time}
+use Rattle.basis.proofs.Readings.{place_read}
+use Rattle.basis.specs.declared.refusal.Refusal.TheVariants.{InvalidFixedBits}
+use Rattle.basis.specs.Check.{Verdict, read_place, refused_at, verdict}
+use Rattle.basis.specs.declared.refusal.Refused.{Refused}
 use Rattle.values_time.specs.Time.{time_checks, time_of, time_read}
-use Rattle.values_time.specs.declared.time.TimeCodeRead.{TimeCodeRead}
 
 -- every refusal has one of the four bytes as its place
 pub time_within : (h m s f : ℕ) → Within 4 (time_checks h m s f)
 time_within h m s f = fixed refl (fixed refl (fixed refl none))
 
-pub time_near : (h m s f : ℕ) → (time_read h m s f).place ≤ 4
+pub time_near : (h m s f : ℕ) (r : Refused) → time_read h m s f ≡ Err r → r.place ≤ 4
 unfolding time_read
-time_near h m s f = place_most false 4 (verdict (time_checks h m s f)) (time_within h m s f).it
+time_near h m s f r e =
+    let v : Verdict = verdict (time_checks h m s f) in
+    rw (sym (ap read_place e) ∙ place_read v (time_of h m s f)) (place_most false 4 v (time_within h m s f).it)
 
 module _ (h m s f : ℕ) where
-  pub hours_wrong : (h / 64 % 4 ≡ 3 → ⊥) → refused_time 0 ≡ time_read h m s f
+  pub hours_wrong : (h / 64 % 4 ≡ 3 → ⊥) → Err (refused_at InvalidFixedBits 0) ≡ time_read h m s f
   unfolding time_read
   hours_wrong a = simp (ne_eqb _ _ a)
 
-  pub minutes_wrong : h / 64 % 4 ≡ 3 → (m / 128 % 2 ≡ 1 → ⊥) → refused_time 1 ≡ time_read h m s f
+  pub minutes_wrong : h / 64 % 4 ≡ 3 → (m / 128 % 2 ≡ 1 → ⊥) → Err (refused_at InvalidFixedBits 1) ≡ time_read h m s f
   unfolding time_read
   minutes_wrong a b = simp (eq-eqb _ _ a, ne_eqb _ _ b)
 
-  pub frames_wrong : h / 64 % 4 ≡ 3 → m / 128 % 2 ≡ 1 → (f / 64 % 2 ≡ 0 → ⊥) → refused_time 3 ≡ time_read h m s f
+  pub frames_wrong : h / 64 % 4 ≡ 3 → m / 128 % 2 ≡ 1 → (f / 64 % 2 ≡ 0 → ⊥)
+      → Err (refused_at InvalidFixedBits 3) ≡ time_read h m s f
   unfolding time_read
   frames_wrong a b d = simp (eq-eqb _ _ a, eq-eqb _ _ b, ne_eqb _ _ d)
 
-  pub all_right : h / 64 % 4 ≡ 3 → m / 128 % 2 ≡ 1 → f / 64 % 2 ≡ 0
-      → ◌≡◌ {A = TimeCodeRead} (record { answer = done 0; place = 0; time_code = time_of h m s f }) (time_read h m s f)
+  pub all_right : h / 64 % 4 ≡ 3 → m / 128 % 2 ≡ 1 → f / 64 % 2 ≡ 0 → Ok (time_of h m s f) ≡ time_read h m s f
   unfolding time_read
   all_right a b d = simp (eq-eqb _ _ a, eq-eqb _ _ b, eq-eqb _ _ d)

@@ -2,41 +2,37 @@
 -- Assumes nothing.
 use mathlib.Core.Path.{◌≡◌, ◌∙◌, sym}
 use mathlib.Core.Bool.{Bool, true, false}
-use mathlib.Core.List.{[], ◌∷◌}
 use Prim.Native.Nat.{ℕ, ◌+◌, ◌/◌, ◌%◌, ◌≤◌, ◌<◌}
 use native.Mathlib.Omega.{arith}
 use lib.ListN.{get_or}
 use borrow.Author.Tests.{le-leb, lt-leb}
-use Rattle.basis.specs.Answer.{NotWritable, done, refused}
+use Rattle.std.specs.Prelude.{Ok, Err}
+use Rattle.basis.specs.declared.refusal.Refusal.TheVariants.{NotWritable}
 use Rattle.basis.specs.Mask.{flag, all_set, x80}
 use Rattle.values_time.specs.Time.{digits, digit_bits, time_bytes, time_read, time_written}
 use Rattle.values_time.specs.Code.{InRange}
 use Rattle.values_time.proofs.Digits.{digits_back, above_back}
 use Rattle.values_time.proofs.TimeReads.{all_right}
 use Rattle.values_time.specs.declared.time.TimeCode.{TimeCode}
-use Rattle.values_time.specs.declared.time.TimeCodeWritten.{TimeCodeWritten}
-
-abbrev pub refused_write : TimeCodeWritten
-refused_write = record { answer = refused NotWritable; bytes = 0 ∷ 0 ∷ 0 ∷ 0 ∷ [] }
 
 module _ (t : TimeCode) where
-  pub hours_over : 39 < t.hours → refused_write ≡ time_written t
+  pub hours_over : 39 < t.hours → Err NotWritable ≡ time_written t
   unfolding time_written
   hours_over h = simp (lt-leb _ _ h)
 
-  pub minutes_over : t.hours ≤ 39 → 79 < t.minutes → refused_write ≡ time_written t
+  pub minutes_over : t.hours ≤ 39 → 79 < t.minutes → Err NotWritable ≡ time_written t
   unfolding time_written
   minutes_over h m = simp (le-leb _ _ h, lt-leb _ _ m)
 
-  pub seconds_over : t.hours ≤ 39 → t.minutes ≤ 79 → 79 < t.seconds → refused_write ≡ time_written t
+  pub seconds_over : t.hours ≤ 39 → t.minutes ≤ 79 → 79 < t.seconds → Err NotWritable ≡ time_written t
   unfolding time_written
   seconds_over h m s = simp (le-leb _ _ h, le-leb _ _ m, lt-leb _ _ s)
 
-  pub frames_over : t.hours ≤ 39 → t.minutes ≤ 79 → t.seconds ≤ 79 → 39 < t.frames → refused_write ≡ time_written t
+  pub frames_over : t.hours ≤ 39 → t.minutes ≤ 79 → t.seconds ≤ 79 → 39 < t.frames → Err NotWritable ≡ time_written t
   unfolding time_written
   frames_over h m s f = simp (le-leb _ _ h, le-leb _ _ m, le-leb _ _ s, lt-leb _ _ f)
 
-  pub in_range : InRange t → ◌≡◌ {A = TimeCodeWritten} (record { answer = done 0; bytes = time_bytes t }) (time_written t)
+  pub in_range : InRange t → Ok (time_bytes t) ≡ time_written t
   unfolding time_written
   in_range r = simp (le-leb _ _ r.hours, le-leb _ _ r.minutes, le-leb _ _ r.seconds, le-leb _ _ r.frames)
 
@@ -66,7 +62,7 @@ minutes_fixed value h = rw (above_back 3 value 1 (omega arith))
 -- a time code in range is read back from the bytes that writing makes of it
 pub time_back : (t : TimeCode) → InRange t
     → time_read (get_or (time_bytes t) 0 0) (get_or (time_bytes t) 1 0) (get_or (time_bytes t) 2 0) (get_or (time_bytes t) 3 0)
-    ≡ record { answer = done 0; place = 0; time_code = t }
+    ≡ Ok t
 time_back t r =
     sym (all_right _ _ _ _ (hours_fixed t.hours r.hours) (minutes_fixed t.minutes r.minutes)
     (frames_fixed t.drop_frame t.frames r.frames))

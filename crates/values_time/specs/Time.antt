@@ -1,20 +1,20 @@
 -- Rule 5: the time code, its four bytes read and made.
-use Rattle.std.specs.Prelude.{Bool, true, false, List, [], ◌∷◌, ℕ, ◌+◌, ◌*◌, ◌/◌, ◌%◌, leb}
-use Rattle.basis.specs.Answer.{InvalidFixedBits, NotWritable}
-use Rattle.basis.specs.Check.{Check, WriteCheck, check, check_at, verdict, answer, place_of, if_clear}
+use Rattle.std.specs.Prelude.{Bool, true, false, List, [], ◌∷◌, ℕ, ◌+◌, ◌*◌, ◌/◌, ◌%◌, Result, leb}
+use Rattle.basis.specs.declared.refusal.Refusal.{Refusal}
+use Rattle.basis.specs.declared.refusal.Refusal.TheVariants.{InvalidFixedBits, NotWritable}
+use Rattle.basis.specs.Check.{Check, WriteCheck, check, check_at, read_as, verdict, write_as}
+use Rattle.basis.specs.declared.refusal.Refused.{Refused}
 use Rattle.basis.specs.declared.test.ByteTest.TheVariants.{Hours, Minutes, Frames}
 use Rattle.basis.specs.declared.test.Test.TheVariants.{Byte}
 use Rattle.basis.specs.Mask.{under, bit_run, all_set, all_clear, flag, x80, x40, xc0, x0f}
 use Rattle.values_time.specs.declared.time.MaybeTimeCode.{MaybeTimeCode}
 use Rattle.values_time.specs.declared.time.TimeCode.{TimeCode}
-use Rattle.values_time.specs.declared.time.TimeCodeRead.{TimeCodeRead}
-use Rattle.values_time.specs.declared.time.TimeCodeWritten.{TimeCodeWritten}
 
 abbrev pub time_code : ℕ → ℕ → ℕ → ℕ → Bool → Bool → TimeCode
 time_code hours minutes seconds frames field drop =
     record { hours = hours; minutes = minutes; seconds = seconds; frames = frames; field = field; drop_frame = drop }
 
--- zeros, beside a refusal
+-- zeros, where there is no time code
 abbrev pub no_time : TimeCode
 no_time = time_code 0 0 0 0 false false
 
@@ -46,11 +46,10 @@ abbrev pub time_of : ℕ → ℕ → ℕ → ℕ → TimeCode
 time_of hours minutes seconds frames =
     time_code (digits 2 hours) (digits 3 minutes) (digits 3 seconds) (digits 2 frames) (all_set x80 seconds) (all_set x80 frames)
 
--- what reading the four bytes gives
-unfoldable pub time_read : ℕ → ℕ → ℕ → ℕ → TimeCodeRead
+-- what reading the four bytes gives; a refusal gives no time code
+unfoldable pub time_read : ℕ → ℕ → ℕ → ℕ → Result TimeCode Refused
 time_read hours minutes seconds frames =
-    let v = verdict (time_checks hours minutes seconds frames) in
-    record { answer = answer v 0; place = place_of v; time_code = if_clear v (time_of hours minutes seconds frames) no_time }
+    read_as (verdict (time_checks hours minutes seconds frames)) (time_of hours minutes seconds frames)
 
 -- Writing: hours and frames 0 to 39, minutes and seconds 0 to 79
 abbrev pub most_hours : ℕ
@@ -87,8 +86,6 @@ time_bytes t =
     ∷ (flag t.drop_frame 0x80 + digit_bits t.frames)
     ∷ []
 
--- what making the four bytes gives
-unfoldable pub time_written : TimeCode → TimeCodeWritten
-time_written t =
-    let v = verdict (time_write_checks t) in
-    record { answer = answer v 0; bytes = if_clear v (time_bytes t) (0 ∷ 0 ∷ 0 ∷ 0 ∷ []) }
+-- what making the four bytes gives; a refusal gives no bytes
+unfoldable pub time_written : TimeCode → Result (List ℕ) Refusal
+time_written t = write_as (verdict (time_write_checks t)) (time_bytes t)

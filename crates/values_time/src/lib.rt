@@ -3,4 +3,4 @@
 
 mod time;
 
-pub use time::{MaybeTimeCode, TimeCode, TimeCodeRead, TimeCodeWritten};
+pub use time::{MaybeTimeCode, TimeCode};

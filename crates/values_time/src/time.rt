@@ -3,7 +3,7 @@ ghost use Rattle.std.specs.Prelude.{◌≡◌, ◌∷◌, [], ◌≤◌, ◌<◌
 ghost use Rattle.values_time.specs.Time as Time;
 ghost use Rattle.values_time.specs.Code as Code;
 
-use basis::{Answer, flag};
+use basis::{Refusal, Refused, flag};
 
 #[derive(Clone, Copy)]
 pub struct TimeCode {
@@ -15,7 +15,8 @@ pub struct TimeCode {
     pub drop_frame: bool,
 }
 
-// A time code that may be absent; then it is zeros.
+// A time code that may be absent; then it is zeros. No Option: a writer may be handed an absent one that has values, which
+// it does not read (absent_time_code_kept and unheld_time_code_tested in must-fail/ of writer and write_checks).
 #[derive(Clone, Copy)]
 pub struct MaybeTimeCode {
     pub present: bool,
@@ -34,41 +35,6 @@ impl MaybeTimeCode {
     {
         Self::ABSENT
     }
-}
-
-// What reading gives: beside a refusal, its place among the four bytes, and no time code.
-#[derive(Clone, Copy)]
-pub struct TimeCodeRead {
-    pub answer: Answer,
-    pub place: usize,
-    pub time_code: TimeCode,
-}
-
-// What making the bytes gives: beside a refusal, zeros.
-#[derive(Clone, Copy)]
-pub struct TimeCodeWritten {
-    pub answer: Answer,
-    pub bytes: [u8; 4],
-}
-
-impl TimeCodeRead {
-    // Fixed bits of the byte at a place.
-    fn refused(place: usize) -> Self
-        ensures { result ≡ Code.refused_time place }
-    {
-        Self {
-            answer: Answer::INVALID_FIXED_BITS,
-            place,
-            time_code: TimeCode::NONE,
-        }
-    }
-}
-
-impl TimeCodeWritten {
-    const REFUSED: Self = Self {
-        answer: Answer::NOT_WRITABLE,
-        bytes: [0; 4],
-    };
 }
 
 impl TimeCode {
@@ -139,53 +105,41 @@ impl TimeCode {
         }
     }
 
-    // Reads hours, minutes, seconds and frames, in that order.
-    pub fn parse(bytes: [u8; 4]) -> TimeCodeRead
+    // No TryFrom here and in `to_bytes`: what reads bytes is called `parse` in each type, so that it is found by that name.
+    // Reads hours, minutes, seconds and frames, in that order; a refusal's place is among the four bytes.
+    #[tactic(auto, using(crate::proofs::TimeReads::hours_wrong, crate::proofs::TimeReads::minutes_wrong, crate::proofs::TimeReads::frames_wrong, crate::proofs::TimeReads::all_right))]
+    pub fn parse(bytes: [u8; 4]) -> Result<Self, Refused>
         ensures { result ≡ Time.time_read (get_or bytes 0 0) (get_or bytes 1 0) (get_or bytes 2 0) (get_or bytes 3 0) }
     {
-        let hours = bytes[0];
-        let minutes = bytes[1];
-        let seconds = bytes[2];
-        let frames = bytes[3];
+        let [hours, minutes, seconds, frames] = bytes;
         // Both bits of C0 are set.
         if hours / 64 % 4 != 3 {
-            return TimeCodeRead::refused(0);
+            return Err(Refused::at(Refusal::InvalidFixedBits, 0));
         }
         // Bit 80 is set.
         if minutes / 128 % 2 != 1 {
-            return TimeCodeRead::refused(1);
+            return Err(Refused::at(Refusal::InvalidFixedBits, 1));
         }
         // Bit 40 is clear.
         if frames / 64 % 2 != 0 {
-            return TimeCodeRead::refused(3);
+            return Err(Refused::at(Refusal::InvalidFixedBits, 3));
         }
-        TimeCodeRead {
-            answer: Answer::done(0),
-            place: 0,
-            time_code: Self::value(hours, minutes, seconds, frames),
-        }
+        Ok(Self::value(hours, minutes, seconds, frames))
     }
 
     // Makes the four bytes, or refuses a value that they cannot hold.
-    pub fn to_bytes(self) -> TimeCodeWritten
+    #[tactic(auto, using(crate::proofs::TimeWrites::hours_over, crate::proofs::TimeWrites::minutes_over, crate::proofs::TimeWrites::seconds_over, crate::proofs::TimeWrites::frames_over, crate::proofs::TimeWrites::in_range))]
+    pub fn to_bytes(self) -> Result<[u8; 4], Refusal>
         ensures { result ≡ Time.time_written self }
     {
-        if Self::MAX_HOURS < self.hours {
-            return TimeCodeWritten::REFUSED;
+        if Self::MAX_HOURS < self.hours
+            || Self::MAX_MINUTES < self.minutes
+            || Self::MAX_SECONDS < self.seconds
+            || Self::MAX_FRAMES < self.frames
+        {
+            return Err(Refusal::NotWritable);
         }
-        if Self::MAX_MINUTES < self.minutes {
-            return TimeCodeWritten::REFUSED;
-        }
-        if Self::MAX_SECONDS < self.seconds {
-            return TimeCodeWritten::REFUSED;
-        }
-        if Self::MAX_FRAMES < self.frames {
-            return TimeCodeWritten::REFUSED;
-        }
-        TimeCodeWritten {
-            answer: Answer::done(0),
-            bytes: self.bytes(),
-        }
+        Ok(self.bytes())
     }
 
     // The fixed bits, the flags above and the digits below.

@@ -9,7 +9,8 @@ use borrow.Author.Tests.{leb-true}
 use lib.Dec.{eqb}
 use lib.ListN.{length}
 use Rattle.basis.proofs.Verdicts.{and_then, append_first, append_second, done_clear, kept_at_lem, refused_shows, verdict_append}
-use Rattle.basis.specs.Answer.{UnknownFramerate, WrongCaptionRun, done}
+use Rattle.basis.specs.Answer.{done}
+use Rattle.basis.specs.declared.refusal.Refusal.TheVariants.{UnknownFramerate, WrongCaptionRun}
 use Rattle.basis.specs.Bytes.{over}
 use Rattle.basis.specs.Check.{WriteCheck, WriteVerdict, answer, broken, check, clear, room_check, verdict}
 use Rattle.basis.proofs.Writes.{Leaves, room_done, room_last}

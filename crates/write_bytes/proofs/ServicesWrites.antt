@@ -13,7 +13,8 @@ use lib.Seq.{length-take-le}
 use Rattle.basis.proofs.Puts.{over_nil, part_over}
 use Rattle.basis.proofs.Verdicts.{and_then, verdict_append}
 use Rattle.basis.proofs.Writes.{Leaves}
-use Rattle.basis.specs.Answer.{BufferTooShort, done, refused}
+use Rattle.basis.specs.Answer.{done, refused}
+use Rattle.basis.specs.declared.refusal.Refusal.TheVariants.{BufferTooShort}
 use Rattle.basis.specs.Bytes.{over}
 use Rattle.basis.specs.Check.{WriteCheck, WriteVerdict, answer, broken, clear, if_clear, room_check, verdict}
 use Rattle.basis.specs.Writing.{Written}

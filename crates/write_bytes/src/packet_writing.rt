@@ -8,7 +8,7 @@ ghost use Rattle.values.specs.Layout.{caption_run, footer_size, header_size, sec
 ghost use Rattle.write_bytes.specs.PacketWriting as Writing;
 ghost use Rattle.write_bytes.specs.Code as Code;
 
-use basis::{Answer, put};
+use basis::{Answer, Refusal, put};
 use service_list::{MaybeServiceInfo, ServiceInfo};
 use values::{Flags, Framerate, Packet, checksum_byte, sequence_bytes};
 use values_time::MaybeTimeCode;
@@ -82,7 +82,7 @@ fn put_services(service_info: MaybeServiceInfo, others: usize, out: &mut [u8]) -
     }
     let room = out.len();
     if room < others {
-        return Answer::buffer_too_short(others, room);
+        return Answer::from(Refusal::BufferTooShort(others, room));
     }
     Answer::done(others)
 }
@@ -106,7 +106,7 @@ fn put_list(list: ServiceInfo, others: usize, out: &mut [u8]) -> Answer
         if !tested.is_done() {
             return tested;
         }
-        return Answer::buffer_too_short(needed, room);
+        return Answer::from(Refusal::BufferTooShort(needed, room));
     }
     let at = others - Packet::FOOTER_LEN;
     let written = list.write_into(&mut out[at..]);
@@ -127,7 +127,7 @@ fn header_bytes(size: usize, framerate: Framerate, flags: Flags, sequence: u16) 
         0x69,
         size as u8,
         framerate.id * 16 + 0x0F,
-        flags.to_byte(),
+        u8::from(flags),
         count[0],
         count[1],
     ]

@@ -8,12 +8,16 @@ use Prim.Native.Nat.{ℕ, ◌+◌, ◌%◌, ◌≤◌, ◌<◌}
 use native.Mathlib.Omega.{arith}
 use borrow.Author.Tests.{eq-eqb, ne_eqb, le-leb, lt-leb, leb-true, leb-false, eqb-true}
 use lib.Dec.{eqb, leb}
+use Rattle.std.specs.Prelude.{Result, Ok, Err, None, is_ok}
+use Rattle.std.specs.Result.{result_unwrap_or}
 use Rattle.basis.proofs.Bools.{and_left, and_right}
 use Rattle.values.proofs.Rates.{no_row}
-use Rattle.basis.proofs.Verdicts.{append_first, append_second, done_clear, done_value, kept_at_lem, kept_from, refused_not_done}
-use Rattle.basis.specs.Answer.{UnknownFramerate, WrongCaptionRun, done, refused}
-use Rattle.basis.specs.Check.{WriteCheck, WriteVerdict, answer, clear, broken, if_clear, size_when, verdict, when}
-use Rattle.values.specs.Rate.{from_id, known, no_rate}
+use Rattle.basis.proofs.Verdicts.{append_first, append_second, done_clear, done_value, kept_at_lem, kept_from}
+use Rattle.basis.specs.Answer.{done, refused}
+use Rattle.basis.specs.declared.refusal.Refusal.{Refusal}
+use Rattle.basis.specs.declared.refusal.Refusal.TheVariants.{UnknownFramerate, WrongCaptionRun}
+use Rattle.basis.specs.Check.{WriteCheck, WriteVerdict, answer, clear, broken, if_clear, size_when, verdict, when, write_answer, write_as}
+use Rattle.values.specs.Rate.{from_id, known, same_numbers}
 use Rattle.values_time.specs.Time.{time_bytes, time_write_checks, time_written}
 use Rattle.service_list.specs.ServiceList.{list_absent}
 use Rattle.service_list.specs.SectionWriting.{value_checks}
@@ -39,7 +43,6 @@ use Rattle.service_list.specs.declared.list.MaybeServiceInfo.{MaybeServiceInfo}
 use Rattle.service_list.specs.declared.list.ServiceInfo.{ServiceInfo}
 use Rattle.basis.specs.declared.answer.Answer.{Answer}
 use Rattle.values.specs.declared.framerate.Framerate.{Framerate}
-use Rattle.values.specs.declared.framerate.MaybeFramerate.{MaybeFramerate}
 use Rattle.values.specs.Layout.{footer_size, header_size, section_head_size, section_length, time_code_size}
 use Rattle.values_time.specs.declared.time.MaybeTimeCode.{MaybeTimeCode}
 
@@ -53,10 +56,17 @@ refused_alone : (v : WriteVerdict) (length : ℕ) (bytes : List ℕ) → eqb (an
 refused_alone clear length bytes h = absurd (true≢false h)
 refused_alone (broken rule) length bytes h = refl
 
-done_with : (v : WriteVerdict) (length : ℕ) (bytes : List ℕ) → eqb (answer v 0).number 0 ≡ true
-    → measured (answer v 0) length (if_clear v bytes zeros) ≡ with_length v length bytes
-done_with clear length bytes h = refl
-done_with (broken rule) length bytes h = absurd (false≢true (sym (refused_not_done rule.refusal) ∙ h))
+refused_with : (v : WriteVerdict) (bytes : List ℕ) (length : ℕ) (r : Refusal) → write_as v bytes ≡ Err r
+    → without_length (refused r) ≡ with_length v length bytes
+refused_with clear bytes length r h = absurd (true≢false (ap is_ok h))
+refused_with (broken rule) bytes length r h =
+    ap (λ (s : Result (List ℕ) Refusal). without_length (write_answer s 0)) (sym h)
+
+done_with : (v : WriteVerdict) (bytes : List ℕ) (length : ℕ) (got : List ℕ) → write_as v bytes ≡ Ok got
+    → measured (done 0) length got ≡ with_length v length bytes
+done_with clear bytes length got h =
+    ap (λ (s : Result (List ℕ) Refusal). measured (done 0) length (result_unwrap_or s bytes)) (sym h)
+done_with (broken rule) bytes length got h = absurd (false≢true (ap is_ok h))
 
 -- a time code that may be held: its own checks decide where it is, and its size and its bytes go with 0
 module _ (time : MaybeTimeCode) where
@@ -65,19 +75,18 @@ module _ (time : MaybeTimeCode) where
   no_time a = simp a
 
   module _ (held : time.present ≡ true) where
-    pub bad_time : eqb (time_written time.time_code).answer.number 0 ≡ false
-        → without_length (time_written time.time_code).answer ≡ time_code_write_tested time
+    pub bad_time : (r : Refusal) → time_written time.time_code ≡ Err r → without_length (refused r) ≡ time_code_write_tested time
     unfolding time_written time_code_write_tested
-    bad_time h =
+    bad_time r h =
         simp held
-        (refused_alone (verdict (time_write_checks time.time_code)) time_code_size (time_bytes time.time_code) h)
+        (refused_with (verdict (time_write_checks time.time_code)) (time_bytes time.time_code) time_code_size r h)
 
-    pub good_time : eqb (time_written time.time_code).answer.number 0 ≡ true
-        → measured (time_written time.time_code).answer time_code_size (time_written time.time_code).bytes
-        ≡ time_code_write_tested time
+    pub good_time : (bytes : List ℕ) → time_written time.time_code ≡ Ok bytes
+        → measured (done 0) time_code_size bytes ≡ time_code_write_tested time
     unfolding time_written time_code_write_tested
-    good_time h =
-        simp held (done_with (verdict (time_write_checks time.time_code)) time_code_size (time_bytes time.time_code) h)
+    good_time bytes h =
+        simp held
+        (done_with (verdict (time_write_checks time.time_code)) (time_bytes time.time_code) time_code_size bytes h)
 
 -- a held list that can be written counts up to 15, so that its section has 107 bytes at most
 services_most : (present : Bool) (l : ServiceInfo) → verdict (when present (value_checks l)) ≡ clear
@@ -96,6 +105,18 @@ services_held_most services h = services_most services.present services.service_
 
 pub time_code_most : (time : MaybeTimeCode) → time_code_length time ≤ time_code_size
 time_code_most time = time_most time.present
+
+-- so what testing it gives is no longer, whatever it answers
+clear_most : (v : WriteVerdict) (length : ℕ) → if_clear v length 0 ≤ length
+clear_most clear length = omega arith
+clear_most (broken rule) length = omega arith
+
+pub tested_most : (t : WriteTested) (time : MaybeTimeCode) → t ≡ time_code_write_tested time → t.length ≤ time_code_size
+unfolding time_code_write_tested
+tested_most t time e =
+    let most : if_clear (verdict (time_code_write_checks time)) (time_code_length time) 0 ≤ time_code_length time =
+    clear_most (verdict (time_code_write_checks time)) (time_code_length time) in
+    rw e (omega (arith, most, time_code_most time))
 
 -- the length and the bytes beside 0
 pub record TimeMade (t : WriteTested) (time : MaybeTimeCode) : Type 0 where
@@ -119,19 +140,19 @@ time_made t time e h =
       bytes = ap (λ (u : WriteTested). u.time_code) made;
     }
 
-above_eight : (id : ℕ) → 8 < id → no_rate ≡ from_id id
+above_eight : (id : ℕ) → 8 < id → None ≡ from_id id
 above_eight id h =
     no_row id (λ e. omega arith) (λ e. omega arith) (λ e. omega arith) (λ e. omega arith) (λ e. omega arith)
     (λ e. omega arith) (λ e. omega arith) (λ e. omega arith)
 
 -- an id that names a rate is 8 at most
-named_id : (id : ℕ) (small : Bool) → leb id 8 ≡ small → (from_id id).present ≡ true → id ≤ 8
-named_id id true e h = leb-true _ _ e
-named_id id false e h =
-    absurd (false≢true (ap (λ (r : MaybeFramerate). r.present) (above_eight id (leb-false _ _ e)) ∙ h))
+named_id : (rate : Framerate) (small : Bool) → leb rate.id 8 ≡ small → known rate ≡ true → rate.id ≤ 8
+named_id rate true e h = leb-true _ _ e
+named_id rate false e h =
+    absurd (false≢true (ap (same_numbers rate) (above_eight rate.id (leb-false _ _ e)) ∙ h))
 
 pub known_id : (rate : Framerate) → known rate ≡ true → rate.id ≤ 8
-known_id rate h = named_id rate.id (leb rate.id 8) refl (and_left _ _ h)
+known_id rate h = named_id rate (leb rate.id 8) refl h
 
 -- the packet without its list
 module _ (rate : Framerate) (time : MaybeTimeCode) (run : ℕ) where

@@ -1,6 +1,6 @@
 -- Whether a packet can be written: its checks in their order, and its length.
 use Rattle.std.specs.Prelude.{Bool, ◌&&◌, List, ◌∷◌, ◌++◌, ℕ, ◌+◌, ◌%◌, eqb, leb}
-use Rattle.basis.specs.Answer.{UnknownFramerate, WrongCaptionRun}
+use Rattle.basis.specs.declared.refusal.Refusal.TheVariants.{UnknownFramerate, WrongCaptionRun}
 use Rattle.basis.specs.Check.{WriteCheck, check, when, size_when}
 use Rattle.values.specs.Layout.{caption_run, footer_size, header_size, section_head_size, section_length, time_code_size, triplet_size}
 use Rattle.values.specs.Rate.{known}

@@ -2,7 +2,7 @@
 ghost use Rattle.std.specs.Prelude.{◌≡◌};
 ghost use Rattle.write_checks.specs.Code as Code;
 
-use basis::Answer;
+use basis::{Answer, Refusal};
 use values::{Framerate, Packet};
 use values_time::MaybeTimeCode;
 
@@ -28,17 +28,18 @@ impl WriteTested {
 }
 
 // Whether a packet can be written but for its services, whose writer tests them, and how long it is without them.
+#[tactic(auto, using(crate::proofs::Tests::other_rate, crate::proofs::Tests::run_long, crate::proofs::Tests::run_cut, crate::proofs::Tests::tested_most, crate::proofs::Tests::time_refused))]
 pub fn others_writable(framerate: Framerate, time_code: MaybeTimeCode, run: usize) -> WriteTested
     ensures { result ≡ Code.others_write_tested framerate time_code run }
 {
     if !framerate.is_known() {
-        return WriteTested::alone(Answer::UNKNOWN_FRAMERATE);
+        return WriteTested::alone(Answer::from(Refusal::UnknownFramerate));
     }
     if Packet::CAPTION_RUN < run {
-        return WriteTested::alone(Answer::WRONG_CAPTION_RUN);
+        return WriteTested::alone(Answer::from(Refusal::WrongCaptionRun));
     }
     if run % Packet::TRIPLET_LEN != 0 {
-        return WriteTested::alone(Answer::WRONG_CAPTION_RUN);
+        return WriteTested::alone(Answer::from(Refusal::WrongCaptionRun));
     }
     let timed = time_code_tested(time_code);
     let answer = timed.answer;
@@ -57,21 +58,19 @@ pub fn others_writable(framerate: Framerate, time_code: MaybeTimeCode, run: usiz
 }
 
 // 12 where a time code that is held cannot be written.
+#[tactic(auto, using(crate::proofs::Tests::no_time, crate::proofs::Tests::bad_time, crate::proofs::Tests::good_time))]
 fn time_code_tested(time_code: MaybeTimeCode) -> WriteTested
     ensures { result ≡ Code.time_code_write_tested time_code }
 {
     if !time_code.present {
         return WriteTested::alone(Answer::done(0));
     }
-    let written = time_code.time_code.to_bytes();
-    let answer = written.answer;
-    if !answer.is_done() {
-        return WriteTested::alone(answer);
-    }
-    let bytes = written.bytes;
-    WriteTested {
-        answer,
-        length: Packet::TIME_CODE_LEN,
-        time_code: bytes,
+    match time_code.time_code.to_bytes() {
+        Ok(bytes) => WriteTested {
+            answer: Answer::done(0),
+            length: Packet::TIME_CODE_LEN,
+            time_code: bytes,
+        },
+        Err(refusal) => WriteTested::alone(Answer::from(refusal)),
     }
 }

@@ -6,7 +6,8 @@ use Prim.Native.Nat.{◌≤◌, ◌<◌}
 use borrow.Author.Tests.{le-leb, lt-leb}
 use lib.Dec.{eqb}
 use Rattle.basis.proofs.Verdicts.{done_value, refused_shows}
-use Rattle.basis.specs.Answer.{WouldOverflow, done, refused}
+use Rattle.basis.specs.Answer.{done, refused}
+use Rattle.basis.specs.declared.refusal.Refusal.TheVariants.{WouldOverflow}
 use Rattle.basis.specs.Check.{answer, verdict}
 use Rattle.writer.specs.Writer.{holding, set_checks, set_service_info}
 use Rattle.writer.specs.Code.{count_answer}

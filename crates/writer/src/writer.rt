@@ -3,7 +3,7 @@ ghost use Rattle.std.specs.Prelude.{◌≡◌};
 ghost use Rattle.writer.specs.Writer as Writer;
 ghost use Rattle.writer.specs.Code as Code;
 
-use basis::Answer;
+use basis::{Answer, Refusal};
 use service_list::{MaybeServiceInfo, ServiceInfo};
 use values::Framerate;
 use values_time::MaybeTimeCode;
@@ -17,7 +17,8 @@ pub struct CDPWriter {
     pub sequence: u16,
 }
 
-// What setting a list gives: beside a refusal, the writer as it was.
+// What setting a list gives: beside a refusal, the writer as it was. No Result: writers are handed over by value, so that a
+// refusal gives the writer back too.
 #[derive(Clone, Copy)]
 pub struct CDPWriterSet {
     pub answer: Answer,
@@ -142,7 +143,7 @@ fn count_checked(service_info: MaybeServiceInfo) -> Answer
     }
     let list = service_info.service_info;
     if ServiceInfo::PLACES < list.count {
-        return Answer::WOULD_OVERFLOW;
+        return Answer::from(Refusal::WouldOverflow);
     }
     Answer::done(0)
 }

@@ -6,7 +6,7 @@ use Rattle.basis.proofs.buffer.answered.Goals as goal
 
 pub returns-then-given-needed : goal.returns-then-given-needed
 returns-then-given-needed c =
-    c.buffer_too_short.ensures ∙ simp (lt-leb _ _ c.if-given-needed.true)
+    c.from.ensures ∙ simp (lt-leb _ _ c.if-given-needed.true)
 
 pub returns : goal.returns
 returns c =

@@ -7,7 +7,7 @@ use Rattle.read_closing.proofs.closing.test_closing.Goals as goal
 
 pub returns-then-size-i : goal.returns-then-size-i
 returns-then-size-i c =
-    c.at.ensures ∙ rw c.length_mismatch.ensures (nothing_there _ _ _ (omega arith))
+    rw c.at.ensures (nothing_there _ _ _ (omega arith))
 
 pub loop-i-init : goal.loop-i-init
 loop-i-init c =
@@ -15,23 +15,21 @@ loop-i-init c =
 
 pub returns-then-packet-i-lt117 : goal.returns-then-packet-i-lt117
 returns-then-packet-i-lt117 c =
-    c.at-then-packet-i-lt117.ensures ∙ id_low _ _ _ _ c.loop-i.invariant c.loop-i-test.true (omega arith)
+    rw c.at-then-packet-i-lt117.ensures (id_low _ _ _ _ c.loop-i.invariant c.loop-i-test.true (omega arith))
 
 pub returns-then-packet-i-gt239 : goal.returns-then-packet-i-gt239
 returns-then-packet-i-gt239 c =
-    c.at-then-packet-i-gt239.ensures ∙ id_high _ _ _ _ c.loop-i.invariant c.loop-i-test.true (omega arith) (omega arith)
+    rw c.at-then-packet-i-gt239.ensures (id_high _ _ _ _ c.loop-i.invariant c.loop-i-test.true (omega arith) (omega arith))
 
 pub returns-then-size-i-2 : goal.returns-then-size-i-2
 returns-then-size-i-2 c =
-    c.at-then-size-i-2.ensures
-    ∙ rw c.length_mismatch-then-size-i-2.ensures
+    rw c.at-then-size-i-2.ensures
     (future_cut _ _ _ _ c.loop-i.invariant c.loop-i-test.true (omega arith) (omega arith) (omega arith))
 
 pub returns-then-size-next : goal.returns-then-size-next
 returns-then-size-next c =
     let inv = c.loop-i.invariant in
-    c.at-then-size-next.ensures
-    ∙ rw c.length_mismatch-then-size-next.ensures
+    rw c.at-then-size-next.ensures
     (nothing_behind _ _ _ _ inv c.loop-i-test.true (omega arith) (omega arith) (omega arith) (omega arith))
 
 pub loop-i-preserved : goal.loop-i-preserved

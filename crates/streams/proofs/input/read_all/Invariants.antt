@@ -1,4 +1,5 @@
 -- Each turn that does not end the reading leaves less of the buffer. The count stays within it.
+-- Assumes nothing.
 use Rattle.std.proofs.Common.{◌≤◌, ◌-◌, length}
 use Rattle.streams.proofs.input.read_all.Given as goal
 

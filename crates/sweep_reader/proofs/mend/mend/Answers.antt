@@ -1,7 +1,6 @@
 -- `sweep_reader::mend::mend`: the byte that mends is cleared, the sum made, and its negative put there.
 -- Assumes nothing.
-use Rattle.std.proofs.Common.{ℕ, ◌-◌, length, set, ap, arith, length-set}
-use native.Mathlib.Nat.{sub-zero}
+use Rattle.std.proofs.Common.{ℕ, ◌-◌, length, set, refl, ap, arith, length-set}
 use Rattle.sweep_reader.proofs.Mends.{mend_byte, mend_done, mend_short}
 use Rattle.sweep_reader.proofs.mend.mend.Goals as goal
 
@@ -14,9 +13,9 @@ returns c =
     let a = c.args in
     let p = a.packet.now in
     let at = length p - c.mender.result in
-    let r = c.wrapping_sub_u8.result in
+    let r = c.wrapping_neg.result in
     mend_done a.behind at r p (omega arith) (ap (λ (n : ℕ). length p - n) c.mender.ensures.value)
-    (mend_byte a.behind (length p) c.sum.result c.wrapping_add_u8-rest.result r (set p at 0)
+    (mend_byte a.behind (length p) c.sum.result _ r (set p at 0)
     (length-set p at 0)
-    (simp sub-zero at c.sum.ensures) c.wrapping_add_u8-rest.ensures.value c.wrapping_sub_u8.ensures.value
+    c.sum.ensures refl c.wrapping_neg.ensures
     (omega arith))

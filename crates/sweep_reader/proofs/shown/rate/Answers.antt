@@ -7,4 +7,4 @@ use Rattle.sweep_reader.proofs.shown.rate.Goals as goal
 pub returns : goal.returns
 unfolding rate_fed
 returns c =
-    c.four-2.ensures ∙ rw (c.four.ensures, c.feed-id.ensures, c.flag_fed-present.ensures)
+    c.four-2.ensures ∙ rw (c.four.ensures, c.feed-id.ensures, c.unwrap_or-framerate.ensures, c.flag_fed-present.ensures, c.is_some.ensures)

@@ -3,5 +3,5 @@
 use Rattle.tape.proofs.ListReads.{EntriesRead}
 use Rattle.tape.proofs.lists.entries.Given as goal
 
-abbrev pub invariant-loop-k : goal.invariant-loop-k
-invariant-loop-k l = EntriesRead l.line l.from l.start l.change l.complete l.list l.at l.k
+abbrev pub invariant-loop : goal.invariant-loop
+invariant-loop l = EntriesRead l.line l.from l.start l.change l.complete l.list l.at l.counter

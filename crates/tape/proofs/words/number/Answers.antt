@@ -1,19 +1,32 @@
 -- `words::number`: no digit, a number over the limit, or the number.
 -- Assumes nothing.
-use native.Mathlib.Omega.{arith}
-use Rattle.tape.proofs.WordReads.{number_found, number_none, number_over}
+use Rattle.std.proofs.Common.{arith}
+use Rattle.tape.proofs.WordReads.{number_found, number_none, number_over, number_past, number_within}
 use Rattle.tape.proofs.words.number.Goals as goal
 
-pub returns-then-found-at : goal.returns-then-found-at
-returns-then-found-at c =
-    let d = c.digits-found.ensures in number_none _ _ _ _ _ d.value d.next c.if-found-at.true
+pub returns-in_err-rest-clause-value : goal.returns-in_err-rest-clause-value
+returns-in_err-rest-clause-value c =
+    rw c.from_residual.ensures (number_past _ _ _ (omega (arith, c.in_err-rest.ensures.cases)))
 
-pub returns-then-most-found : goal.returns-then-most-found
-returns-then-most-found c =
-    let d = c.digits-found.ensures in
-    number_over _ _ _ _ _ d.value d.next c.if-most-found.true
+pub returns-in_err-found-clause-value : goal.returns-in_err-found-clause-value
+returns-in_err-found-clause-value c =
+    rw c.from_residual-in_err-found.ensures
+    (number_over _ _ _ _ c.in_ok-rest.ensures.cases.2 (omega (arith, c.in_err-found.ensures)))
 
-pub returns : goal.returns
-returns c =
-    let d = c.digits-found.ensures in
-    number_found _ _ _ _ _ d.value d.next c.if-found-at.false c.if-most-found.false (omega arith)
+pub returns-then-found-eq0-clause-value : goal.returns-then-found-eq0-clause-value
+returns-then-found-eq0-clause-value c =
+    number_none _ _ _ _ c.in_ok-rest.ensures.cases.2 (omega (arith, c.in_ok-found.ensures))
+
+pub returns-then-most-found-clause-value : goal.returns-then-most-found-clause-value
+returns-then-most-found-clause-value c =
+    number_over _ _ _ _ c.in_ok-rest.ensures.cases.2 (omega (arith, c.in_ok-found.ensures))
+
+pub overflow_add-result : goal.overflow_add-result
+overflow_add-result c =
+    let split = c.in_ok-rest.ensures.cases in
+    omega (arith, c.in_ok-found.ensures, number_within c.args.line.now c.args.at c.args.most _ split.2 split.0)
+
+pub returns-clause-value : goal.returns-clause-value
+returns-clause-value c =
+    number_found _ _ _ _ c.in_ok-rest.ensures.cases.2 _ _ c.in_ok-found.ensures.0 c.in_ok-found.ensures.1
+    c.if-found-eq0.false (omega arith)

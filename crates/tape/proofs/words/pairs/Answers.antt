@@ -1,17 +1,17 @@
 -- `words::pairs`: so many bytes were put, and those from the place on are left.
 -- Assumes nothing.
-use native.Mathlib.Omega.{arith}
+use Rattle.std.proofs.Common.{arith}
 use Rattle.tape.proofs.WordReads.{pairs_full, pairs_next, pairs_stopped}
 use Rattle.tape.proofs.words.pairs.Goals as goal
 
-pub returns-then-found : goal.returns-then-found
-returns-then-found c =
-    let stopped = pairs_stopped c.loop-k.invariant _ c.byte-found.ensures c.if-found.true in
+pub returns-in_default : goal.returns-in_default
+returns-in_default c =
+    let stopped = pairs_stopped c.loop-k.invariant c.in_default.ensures in
     record { value = stopped.0; given_after = stopped.1 }
 
 pub loop-k-preserved : goal.loop-k-preserved
 loop-k-preserved c =
-    pairs_next c.loop-k.invariant _ (omega arith) c.byte-found.ensures c.if-found.false
+    pairs_next c.loop-k.invariant c.in-Some.found (omega arith) c.in-Some.ensures
 
 pub returns : goal.returns
 returns c =

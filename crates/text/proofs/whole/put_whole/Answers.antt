@@ -14,7 +14,7 @@ pub returns-then-room-needed : goal.returns-then-room-needed
 unfolding text_written
 returns-then-room-needed c =
     let none = no_room [] (length c.args.text.now) c.args.text.now c.args.out.now refl c.if-room-needed.true in
-    record { value = c.buffer_too_short.ensures ∙ none.0; out_after = none.1 }
+    record { value = c.from.ensures ∙ none.0; out_after = none.1 }
 
 pub returns : goal.returns
 unfolding text_written

@@ -5,7 +5,4 @@ use Rattle.text_dump.proofs.captions.triplet.Goals as goal
 
 pub returns : goal.returns
 returns c =
-    let one = rw c.byte_at.ensures at c.hex-first.ensures in
-    let two = rw c.byte_at-2.ensures at c.hex-second.ensures in
-    let three = rw c.byte_at-3.ensures at c.hex-third.ensures in
-    behind (behind (behind one two) three) c.line.ensures
+    behind (behind (behind c.hex-one.ensures c.hex-two.ensures) c.hex-three.ensures) c.line.ensures

@@ -4,7 +4,7 @@ use mathlib.Core.Bool.{false}
 use mathlib.Core.Path.{◌≡◌, ◌∙◌, sym, refl}
 use lib.Dec.{eqb}
 use Rattle.text.proofs.Rooms.{behind, nothing}
-use Rattle.text_dump.proofs.PacketDumped.{accepted_lines, handed_size, handed_within, places_enough, refused_lines}
+use Rattle.text_dump.proofs.PacketDumped.{accepted_lines, handed_size, handed_within, places_enough, refused_lines, whole_handed}
 use Rattle.text_dump.proofs.dump.packet.Goals as goal
 
 pub returns-then-not-is_done : goal.returns-then-not-is_done
@@ -27,8 +27,13 @@ slice_bounds-shown-end c =
     (handed_size _ _ _ _ _ c.new-new.ensures refl c.parse-read.ensures.value c.parse-read.ensures.captions_after
     (sym c.is_done.ensures ∙ c.if-not-is_done.false))
 
-pub shown-requires : goal.shown-requires
-shown-requires c =
+pub shown-requires-clause-whole : goal.shown-requires-clause-whole
+shown-requires-clause-whole c =
+    whole_handed _ _ _ _ _ c.new-new.ensures refl c.parse-read.ensures.value c.parse-read.ensures.captions_after
+    (sym c.is_done.ensures ∙ c.if-not-is_done.false)
+
+pub shown-requires-clause-listed : goal.shown-requires-clause-listed
+shown-requires-clause-listed c =
     places_enough _ _ _ _ _ c.new-new.ensures refl c.parse-read.ensures.value c.parse-read.ensures.captions_after
     (sym c.is_done.ensures ∙ c.if-not-is_done.false)
 

@@ -7,14 +7,11 @@ use Rattle.text_dump.proofs.Places.{place_more}
 use Rattle.text_dump.specs.Lines.{place_line}
 use Rattle.text_dump.proofs.list.entries.Goals as goal
 
-pub loop-k-init : goal.loop-k-init
-loop-k-init c =
-    (omega arith, omega arith, rw (each_none (place_line _)) (nothing _ _))
+pub loop-shown-init : goal.loop-shown-init
+loop-shown-init c =
+    rw (each_none (place_line _)) (nothing _ _)
 
-pub loop-k-preserved : goal.loop-k-preserved
-loop-k-preserved c =
-    let services = c.args.services in (
-      omega arith,
-      omega arith,
-      behind_as c.loop-k.invariant.2 c.entry-at.ensures (place_more services c.loop-k.k _ (omega arith)),
-    )
+pub loop-shown-preserved : goal.loop-shown-preserved
+loop-shown-preserved c =
+    behind_as c.loop-shown.invariant c.entry-at.ensures
+    (place_more c.args.listed.now c.loop-shown.shown-index _ (omega arith))

@@ -1,8 +1,8 @@
--- `values::checksum::sum`: after k turns the sum is that of the first k bytes, modulo 256.
+-- `values::checksum::sum`: after so many turns the sum is that of as many first bytes, modulo 256.
 -- Assumes nothing.
-use Rattle.std.proofs.Common.{◌≡◌, ◌%◌, ◌≤◌, length, take}
+use Rattle.std.proofs.Common.{◌≡◌, ◌%◌, take}
 use Rattle.values.specs.Checksum.{total}
 use Rattle.values.proofs.checksum.sum.Given as goal
 
-abbrev pub invariant-loop-k : goal.invariant-loop-k
-invariant-loop-k l = (l.k ≤ length l.bytes) × (l.sum ≡ total (take l.k l.bytes) % 256)
+abbrev pub invariant-loop-byte : goal.invariant-loop-byte
+invariant-loop-byte l = l.sum ≡ total (take l.byte-index l.bytes) % 256

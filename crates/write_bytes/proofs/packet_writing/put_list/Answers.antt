@@ -46,7 +46,7 @@ returns-then-room-needed c =
     (rw c.writable-tested.ensures at (sym c.is_done-then-room-needed.ensures ∙ c.if-not-is_done-2.false))
     (omega (arith, long, c.if-room-needed.true))
     in
-    record { value = rw (c.buffer_too_short.ensures, long) left.0; out_after = left.1 }
+    record { value = rw (c.from.ensures, long) left.0; out_after = left.1 }
 
 pub returns-then-not-is_done-3 : goal.returns-then-not-is_done-3
 returns-then-not-is_done-3 c =

@@ -8,7 +8,7 @@ pub returns-then-room-others : goal.returns-then-room-others
 returns-then-room-others c =
     let a = c.args in
     let left = absent_no_room a.service_info a.others a.out.now c.if-service_info.false c.if-room-others.true in
-    record { value = c.buffer_too_short.ensures ∙ left.0; out_after = left.1 }
+    record { value = c.from.ensures ∙ left.0; out_after = left.1 }
 
 pub returns : goal.returns
 returns c =

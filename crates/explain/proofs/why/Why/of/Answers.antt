@@ -4,20 +4,15 @@ use mathlib.Core.Path.{◌∙◌, sym}
 use Rattle.explain.proofs.Explained.{accepted_told, place_inside, refused_told}
 use Rattle.explain.proofs.why.Why.of.Goals as goal
 
-pub returns-then-is_done : goal.returns-then-is_done
-returns-then-is_done c =
-    let e = c.parse-checked.ensures in
-    let done = sym c.is_done.ensures ∙ c.if-is_done.true in
-    rw e (accepted_told c.args.packet.now (rw e at done))
+pub returns-in-Ok : goal.returns-in-Ok
+returns-in-Ok c =
+    rw c.done.ensures (accepted_told _ _ (sym c.parse.ensures ∙ c.in-Ok.is))
 
 pub reason_for-requires : goal.reason_for-requires
 reason_for-requires c =
-    rw c.parse-checked.ensures
-    (place_inside c.args.packet.now)
+    place_inside _ _ (sym c.parse.ensures ∙ c.in-Err.is)
 
-pub returns : goal.returns
-returns c =
-    let e = c.parse-checked.ensures in
-    let wrong = sym c.is_done.ensures ∙ c.if-is_done.false in
-    rw (c.reason_for.ensures, c.test_of-test.ensures, e)
-    (refused_told c.args.packet.now (rw e at wrong))
+pub returns-in-Err : goal.returns-in-Err
+returns-in-Err c =
+    rw (c.reason_for.ensures, c.test_of-test.ensures, c.from-answer.ensures)
+    (refused_told _ _ (sym c.parse.ensures ∙ c.in-Err.is))

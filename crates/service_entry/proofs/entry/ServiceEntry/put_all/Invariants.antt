@@ -10,8 +10,8 @@ use Rattle.service_entry.specs.EntriesWriting.{places_from}
 use Rattle.service_entry.proofs.EntriesWrites.{ahead, entries_put}
 use Rattle.service_entry.proofs.entry.ServiceEntry.put_all.Given as goal
 
-abbrev pub invariant-loop-k : goal.invariant-loop-k
-invariant-loop-k l = (l.k ≤ l.count) × (all_writable (places_from l.services 0 l.count) ≡ ahead l.k l.count l.services)
+abbrev pub invariant-loop-entry : goal.invariant-loop-entry
+invariant-loop-entry l = all_writable (places_from l.fn.services 0 l.count) ≡ ahead l.entry-index l.count l.fn.services
 
-abbrev pub invariant-loop-k-2 : goal.invariant-loop-k-2
-invariant-loop-k-2 l = (l.k ≤ l.count) × (length l.out ≡ length l.initial.out) × (l.out ≡ entries_put l.k l.at l.services l.initial.out) × (ahead l.k l.count l.services ≡ true)
+abbrev pub invariant-loop-k : goal.invariant-loop-k
+invariant-loop-k l = (l.k ≤ l.count) × (length l.out ≡ length l.initial.out) × (l.out ≡ entries_put l.k l.at l.services l.initial.out) × (ahead l.k l.count l.services ≡ true)

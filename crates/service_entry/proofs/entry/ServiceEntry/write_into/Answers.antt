@@ -10,13 +10,13 @@ use Rattle.service_entry.proofs.entry.ServiceEntry.write_into.Goals as goal
 pub returns-then-not-is_writable : goal.returns-then-not-is_writable
 returns-then-not-is_writable c =
     let left = entry_unwritable c.args.self c.args.out.now (sym c.is_writable.ensures ∙ c.if-not-is_writable.true) in
-    record { value = left.0; out_after = left.1 }
+    record { value = c.from.ensures ∙ left.0; out_after = left.1 }
 
 pub returns-then-room-lt-BYTE_LEN : goal.returns-then-room-lt-BYTE_LEN
 returns-then-room-lt-BYTE_LEN c =
     let can : writable c.args.self.service ≡ true = sym c.is_writable.ensures ∙ c.if-not-is_writable.false in
     let left = entry_no_room c.args.self c.args.out.now can (omega arith) in
-    record { value = c.buffer_too_short.ensures ∙ left.0; out_after = left.1 }
+    record { value = c.from-then-room-lt-BYTE_LEN.ensures ∙ left.0; out_after = left.1 }
 
 pub returns : goal.returns
 returns c =

@@ -8,11 +8,12 @@ use Rattle.service_list.proofs.list.ServiceInfo.writable.Goals as goal
 
 pub returns-then-count-gt-PLACES : goal.returns-then-count-gt-PLACES
 returns-then-count-gt-PLACES c =
-    count_over _ (omega arith)
+    c.from.ensures ∙ count_over _ (omega arith)
 
 pub returns-then-not-put_all : goal.returns-then-not-put_all
 returns-then-not-put_all c =
-    some_unwritable _ (omega arith)
+    c.from-then-not-put_all.ensures
+    ∙ some_unwritable _ (omega arith)
     (sym (are_there _ _ (omega arith)) ∙ sym c.put_all.ensures.value ∙ c.if-not-put_all.true)
 
 pub returns : goal.returns

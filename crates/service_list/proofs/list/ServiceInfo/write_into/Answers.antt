@@ -27,7 +27,7 @@ returns-then-not-put_all c =
     in
     let some = sym c.put_all.ensures.value ∙ c.if-not-put_all.true in
     let left = entry_refused c.args.self c.args.out.now held some in
-    record { value = left.0; out_after = c.put_all.ensures.out_after ∙ sym (none_left _ _ _ _ some) ∙ left.1 }
+    record { value = c.from.ensures ∙ left.0; out_after = c.put_all.ensures.out_after ∙ sym (none_left _ _ _ _ some) ∙ left.1 }
 
 -- what the tests have shown, and the length that goes with the count
 pub returns-then-room-needed : goal.returns-then-room-needed
@@ -47,7 +47,7 @@ returns-then-room-needed c =
     let less : length c.args.out.now < section_length c.args.self.count = omega (arith, long, same) in
     let left = room_refused c.args.self c.args.out.now held all less in
     record {
-      value = c.buffer_too_short.ensures ∙ rw (size, same) left.0;
+      value = c.from-then-room-needed.ensures ∙ rw (size, same) left.0;
       out_after = c.put_all.ensures.out_after ∙ sym (short_left _ _ _ _ all (omega (arith, less))) ∙ left.1;
     }
 
