@@ -25,7 +25,7 @@ use Rattle.basis.specs.Check.{
   write_as,
 }
 use Rattle.basis.specs.Answer.{refused}
-use Rattle.basis.specs.Code.{part_answer}
+use Rattle.basis.specs.Code.{outcome, part_answer, tested}
 use Rattle.basis.specs.declared.answer.Answer.{Answer}
 use Rattle.basis.specs.declared.refusal.Refused.{Refused}
 
@@ -62,6 +62,15 @@ module _ {A : Type 0} where
   refused_moved from clear value other r h = absurd (true≢false (ap is_ok h))
   refused_moved from (broken rule) value other r h =
       ap (λ (s : Result A Refused). Err (refused_at (err_or s r).refusal (from + (err_or s r).place))) (sym h)
+
+  -- so of what testing gives, and of what testing a part gives, whatever its size would be
+  pub moved_outcome : (from : ℕ) (v : Verdict) (value : A) (r : Refused) → read_as v value ≡ Err r
+      → Err (refused_at r.refusal (from + r.place)) ≡ outcome (moved_verdict from v)
+  moved_outcome from v value r h = refused_moved from v value tt r h
+
+  pub moved_tested : (from : ℕ) (v : Verdict) (value : A) (size : ℕ) (r : Refused) → read_as v value ≡ Err r
+      → Err (refused_at r.refusal (from + r.place)) ≡ tested (moved_verdict from v) size
+  moved_tested from v value size r h = refused_moved from v value size r h
 
   -- what a caller gives that answers by itself: the place, the answer, and the value beside a refusal
   pub refused_gives : {B R : Type 0} (f : ℕ → Answer → B → R) (v : Verdict) (value : A) (r : Refused) (length : ℕ)
