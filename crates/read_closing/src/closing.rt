@@ -7,6 +7,7 @@ use basis::{Refusal, Refused};
 use values::{Packet, checksum_byte, sequence_count};
 
 // Goes over the future sections from a place on, and tests the footer behind them. Places are the packet's.
+#[inline(always)]
 pub fn test_closing(packet: &[u8], sequence: u16, at: u8) -> Result<(), Refused>
     ensures { result ≡ closing_read packet.now sequence at }
 {
@@ -44,6 +45,7 @@ pub fn test_closing(packet: &[u8], sequence: u16, at: u8) -> Result<(), Refused>
 }
 
 // Tests the footer at a place. More bytes may follow it.
+#[inline(always)]
 fn test_footer(packet: &[u8], sequence: u16, i: usize) -> Result<(), Refused>
     requires { i + section_head_size ≤ length packet.now }
     ensures { result ≡ footer_read packet.now sequence i }
