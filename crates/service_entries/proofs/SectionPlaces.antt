@@ -27,15 +27,15 @@ at_within d at =
     (both (moved 1 (entry_checks (six_behind d at))) _
     (part_inside false 1 6 7 (entry_checks (six_behind d at)) (omega arith) (entry_within (six_behind d at))) (fixed refl none)))
 
-pub at_near_any : (d : List ℕ) (at : ℕ) → read_place (entry_outcome d at) ≤ 7
+pub at_near : (d : List ℕ) (at : ℕ) → read_place (entry_outcome d at) ≤ 7
 unfolding entry_outcome
-at_near_any d at =
+at_near d at =
     let v : Verdict = verdict (checks_at d at) in
     rw (place_read {A = Unit} v tt) (place_most false 7 v (at_within d at).it)
 
 -- so is that of a refusal that was given
-pub at_near : (d : List ℕ) (at : ℕ) (r : Refused) → entry_outcome d at ≡ Err r → r.place ≤ 7
-at_near d at r h = rw (← ap read_place h) (at_near_any d at)
+pub at_near_refused : (d : List ℕ) (at : ℕ) (r : Refused) → entry_outcome d at ≡ Err r → r.place ≤ 7
+at_near_refused d at r h = rw (← ap read_place h) (at_near d at)
 
 entries_placed : (may_be_one : Bool) (d : List ℕ) (at n : ℕ) → at + section_entry_size * n ≤ length d
     → Holds (So (placed_in may_be_one (length d))) (entry_list_checks d at n)
