@@ -4,7 +4,7 @@ use mathlib.Core.Bool.{true≢false, false≢true}
 use mathlib.Core.Path.{◌≡◌, ◌∙◌, sym, refl, ap}
 use Prim.Native.Nat.{ℕ, ◌+◌}
 use Rattle.std.specs.Prelude.{Result, Ok, Err, is_ok}
-use Rattle.std.specs.Result.{result_unwrap_or}
+use Rattle.std.specs.Result.{result_err, result_unwrap_or}
 use Rattle.basis.proofs.Verdicts.{and_clear, and_then, moved_verdict}
 use Rattle.basis.specs.Check.{
   RuleAt,
@@ -20,6 +20,7 @@ use Rattle.basis.specs.Check.{
   read_answer,
   read_as,
   read_place,
+  refusal_place,
   refused_at,
   write_answer,
   write_as,
@@ -88,6 +89,11 @@ module _ {A : Type 0} where
   pub place_read : (v : Verdict) (value : A) → read_place (read_as v value) ≡ place_of v
   place_read clear value = refl
   place_read (broken rule) value = refl
+
+  -- and what its refusal has, where there is one, is the same
+  pub place_alone : (got : Result A Refused) → refusal_place (result_err got) ≡ read_place got
+  place_alone (Ok value) = refl
+  place_alone (Err r) = refl
 
   pub answer_written : (v : WriteVerdict) (value : A) (length : ℕ) → write_answer (write_as v value) length ≡ answer v length
   answer_written clear value length = refl
