@@ -37,8 +37,9 @@ impl<'a, R: Print + Eprint> Output<'a, R> {
 
     #[inline(always)]
     pub fn byte(&mut self, byte: u8) {
-        let at = self.room(1);
-        self.at = at.map(|at| text::byte(&mut self.buffer, at, byte));
+        if let Some(at) = self.room(1) {
+            self.at = Some(text::byte(&mut self.buffer, at, byte));
+        }
     }
 
     #[inline(always)]
@@ -46,8 +47,9 @@ impl<'a, R: Print + Eprint> Output<'a, R> {
         if self.buffer.len() < word.len() {
             self.straight(word);
         } else {
-            let at = self.room(word.len());
-            self.at = at.map(|at| text::word(&mut self.buffer, at, word));
+            if let Some(at) = self.room(word.len()) {
+                self.at = Some(text::word(&mut self.buffer, at, word));
+            }
         }
     }
 
@@ -61,14 +63,16 @@ impl<'a, R: Print + Eprint> Output<'a, R> {
 
     // Any number has 20 digits at most.
     pub fn decimal(&mut self, n: u64) {
-        let at = self.room(20);
-        self.at = at.map(|at| text::number(&mut self.buffer, at, b"", n));
+        if let Some(at) = self.room(20) {
+            self.at = Some(text::number(&mut self.buffer, at, b"", n));
+        }
     }
 
     #[inline(always)]
     pub fn bit(&mut self, on: bool) {
-        let at = self.room(1);
-        self.at = at.map(|at| text::flag(&mut self.buffer, at, b"", on));
+        if let Some(at) = self.room(1) {
+            self.at = Some(text::flag(&mut self.buffer, at, b"", on));
+        }
     }
 
     // A dash for no bytes.
@@ -83,8 +87,10 @@ impl<'a, R: Print + Eprint> Output<'a, R> {
     #[inline(always)]
     pub fn hex(&mut self, shown: &[u8]) {
         for byte in shown {
-            let at = self.room(2);
-            self.at = at.map(|at| text::hex(&mut self.buffer, at, b"", *byte));
+            let Some(at) = self.room(2) else {
+                return;
+            };
+            self.at = Some(text::hex(&mut self.buffer, at, b"", *byte));
         }
     }
 
@@ -105,11 +111,12 @@ impl<'a, R: Print + Eprint> Output<'a, R> {
     #[inline(always)]
     fn room(&mut self, count: usize) -> Option<usize> {
         let at = self.at?;
-        if self.buffer.len().saturating_sub(at) < count {
-            self.flush();
-            return self.at;
+        let left = self.buffer.len().checked_sub(at);
+        if left.is_some_and(|left| count <= left) {
+            return Some(at);
         }
-        Some(at)
+        self.flush();
+        self.at
     }
 
     // Writes out what is there, and the next byte goes to the buffer's start.
