@@ -51,7 +51,7 @@ fn copy(out: &mut [u8], at: usize, bytes: &[u8])
     requires { at + length bytes.now ≤ length out.old }
     ensures { out.new ≡ Bytes.over at bytes.now out.old }
 {
-    // No bytes are put without a call: a packet with no captions is read and written so.
+    // Where there are no bytes the call of the copying is left out, as for a packet with no captions.
     if bytes.is_empty() {
         return;
     }

@@ -29,11 +29,11 @@ use Rattle.read_packet.specs.declared.checked.Checked.{Checked}
 use Rattle.values.specs.declared.flags.Flags.{Flags}
 
 -- a refusal with just this answer and this place, and that is all that is given
-abbrev pub Refuses : Result PacketRead Refused → Answer → ℕ → Type 0
-Refuses got a place = (r : Refused) × refused r.refusal ≡ a × r.place ≡ place × Err r ≡ got
+abbrev pub RefusesPacket : Result PacketRead Refused → Answer → ℕ → Type 0
+RefusesPacket got a place = (r : Refused) × refused r.refusal ≡ a × r.place ≡ place × Err r ≡ got
 
 none : (v : Verdict) (length : ℕ) (shown : PacketRead) → eqb (read_answer (read_as v shown) length).number 0 ≡ false
-    → Refuses (read_as v shown) (read_answer (read_as v shown) length) (read_place (read_as v shown))
+    → RefusesPacket (read_as v shown) (read_answer (read_as v shown) length) (read_place (read_as v shown))
 none clear length shown h = absurd (true≢false h)
 none (broken rule) length shown h = (refused_at rule.refusal rule.at.place, refl, refl, refl)
 
@@ -63,7 +63,7 @@ module _ (p : List ℕ) where
   -- a packet's answer decides what it shows, whatever length goes with 0
   module _ (length : ℕ) where
     pub none_shown : eqb (read_answer (packet_read p) length).number 0 ≡ false
-        → Refuses (packet_read p) (read_answer (packet_read p) length) (read_place (packet_read p))
+        → RefusesPacket (packet_read p) (read_answer (packet_read p) length) (read_place (packet_read p))
     unfolding packet_read
     none_shown h = none (verdict (packet_checks p)) length (stateless_shown p) h
 

@@ -14,8 +14,8 @@ pub struct Output<'a, R> {
     at: Option<usize>,
 }
 
-// What is put is mostly a byte or a short word, so these functions are built into their callers: as calls they took a
-// quarter and more of the tape's work.
+// What is put is mostly a byte or a short word, so what puts these, and `room`, are built into their callers: as calls they
+// took a quarter and more of the tape's work.
 impl<'a, R: Print + Eprint> Output<'a, R> {
     pub fn new(rt: &'a R) -> Self
         ensures rt { result.rt.now ≡ rt.now }
