@@ -57,6 +57,10 @@ module _ (at : ℕ) (bytes buffer : List ℕ) where
   unfolding copied over
   copied_all k h = rw (h, take_all (length bytes) bytes (omega arith))
 
+  -- no bytes leave the buffer as it is
+  pub over_none : length bytes ≡ 0 → buffer ≡ over at bytes buffer
+  over_none h = copied_none ∙ copied_all 0 (sym h)
+
   -- room for all of them
   pub fits_clear : at + length bytes ≤ length buffer
       → (done 0 ≡ put_answer at bytes buffer) × (over at bytes buffer ≡ put at bytes buffer)

@@ -4,7 +4,7 @@ use mathlib.Core.Bool.{true≢false, false≢true}
 use mathlib.Core.Path.{◌≡◌, ◌∙◌, sym, refl, ap}
 use Prim.Native.Nat.{ℕ, ◌+◌}
 use Rattle.std.specs.Prelude.{Result, Ok, Err, is_ok}
-use Rattle.std.specs.Result.{result_unwrap_or}
+use Rattle.std.specs.Result.{result_err, result_unwrap_or}
 use Rattle.basis.proofs.Verdicts.{and_clear, and_then, moved_verdict}
 use Rattle.basis.specs.Check.{
   RuleAt,
@@ -20,12 +20,13 @@ use Rattle.basis.specs.Check.{
   read_answer,
   read_as,
   read_place,
+  refusal_place,
   refused_at,
   write_answer,
   write_as,
 }
 use Rattle.basis.specs.Answer.{refused}
-use Rattle.basis.specs.Code.{part_answer}
+use Rattle.basis.specs.Code.{outcome, part_answer, tested}
 use Rattle.basis.specs.declared.answer.Answer.{Answer}
 use Rattle.basis.specs.declared.refusal.Refused.{Refused}
 
@@ -63,6 +64,15 @@ module _ {A : Type 0} where
   refused_moved from (broken rule) value other r h =
       ap (λ (s : Result A Refused). Err (refused_at (err_or s r).refusal (from + (err_or s r).place))) (sym h)
 
+  -- so of what testing gives, and of what testing a part gives, whatever its size would be
+  pub moved_outcome : (from : ℕ) (v : Verdict) (value : A) (r : Refused) → read_as v value ≡ Err r
+      → Err (refused_at r.refusal (from + r.place)) ≡ outcome (moved_verdict from v)
+  moved_outcome from v value r h = refused_moved from v value tt r h
+
+  pub moved_tested : (from : ℕ) (v : Verdict) (value : A) (size : ℕ) (r : Refused) → read_as v value ≡ Err r
+      → Err (refused_at r.refusal (from + r.place)) ≡ tested (moved_verdict from v) size
+  moved_tested from v value size r h = refused_moved from v value size r h
+
   -- what a caller gives that answers by itself: the place, the answer, and the value beside a refusal
   pub refused_gives : {B R : Type 0} (f : ℕ → Answer → B → R) (v : Verdict) (value : A) (r : Refused) (length : ℕ)
       (other beside : B) → read_as v value ≡ Err r
@@ -79,6 +89,11 @@ module _ {A : Type 0} where
   pub place_read : (v : Verdict) (value : A) → read_place (read_as v value) ≡ place_of v
   place_read clear value = refl
   place_read (broken rule) value = refl
+
+  -- and what its refusal has, where there is one, is the same
+  pub place_alone : (got : Result A Refused) → refusal_place (result_err got) ≡ read_place got
+  place_alone (Ok value) = refl
+  place_alone (Err r) = refl
 
   pub answer_written : (v : WriteVerdict) (value : A) (length : ℕ) → write_answer (write_as v value) length ≡ answer v length
   answer_written clear value length = refl

@@ -4,13 +4,13 @@
 use mathlib.Core.Path.{◌≡◌, ◌∙◌, sym, refl, ap}
 use mathlib.Core.Bool.{Bool, true, false, cond, true≢false, false≢true}
 use mathlib.Core.List.{List, [], ◌∷◌, ◌++◌}
-use Prim.Native.Nat.{ℕ, zero, suc}
+use Prim.Native.Nat.{ℕ, zero, suc, ◌+◌}
 use lib.Dec.{eqb}
 use lib.ListN.{drop}
 use Rattle.basis.specs.Answer.{done, refused}
 use Rattle.basis.specs.declared.refusal.Refusal.{Refusal}
 use Rattle.basis.specs.declared.refusal.Refusal.TheVariants.{LengthMismatch, WrongMagic, UnknownFramerate, InvalidFixedBits, ChecksumFailed, SequenceCountMismatch, ServiceNumberMismatch, InvalidServiceNumber, ServiceFlagsMismatched, WouldOverflow, BufferTooShort, NotWritable, WrongCaptionRun}
-use Rattle.basis.specs.Check.{Check, CheckOf, Rule, RuleAt, Verdict, VerdictOf, when, moved, clear, broken, verdict, answer, moved_rule, if_clear}
+use Rattle.basis.specs.Check.{Check, CheckOf, Rule, RuleAt, Verdict, VerdictOf, when, moved, clear, broken, verdict, answer, place_of, moved_rule, if_clear}
 use Rattle.basis.specs.declared.answer.Answer.{Answer}
 
 -- the first verdict, and the second where the first is clear
@@ -65,6 +65,15 @@ moved_answer from (broken rule) length = refl
 pub moved_refused : (from : ℕ) (v : Verdict) → eqb (answer v 0).number 0 ≡ false
     → eqb (answer (moved_verdict from v) 0).number 0 ≡ false
 moved_refused from v h = rw (moved_answer from v 0) h
+
+-- and what its caller gives beside a refusal, made of answer, place and the other value, is made of the part's answer, at its
+-- own place behind the caller's
+pub moved_shows : {A R : Type 0} (f : Answer → ℕ → A → R) (from : ℕ) (v : Verdict) (count : ℕ) (value other : A)
+    → eqb (answer v 0).number 0 ≡ false
+    → f (answer v 0) (from + place_of v) other
+    ≡ f (answer (moved_verdict from v) count) (place_of (moved_verdict from v)) (if_clear (moved_verdict from v) value other)
+moved_shows f from clear count value other h = absurd (true≢false h)
+moved_shows f from (broken rule) count value other h = refl
 
 -- no refusal has number 0, so that an answer is done exactly where its verdict is clear
 pub refused_not_done : (why : Refusal) → eqb (refused why).number 0 ≡ false

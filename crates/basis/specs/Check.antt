@@ -1,5 +1,5 @@
 -- The form in which the rules are stated: lists of checks, in the order in which the rules make them.
-use Rattle.std.specs.Prelude.{Bool, cond, List, [], ◌∷◌, ℕ, ◌+◌, Result, Ok, Err, leb, length}
+use Rattle.std.specs.Prelude.{Bool, cond, List, [], ◌∷◌, ℕ, ◌+◌, Option, Some, None, Result, Ok, Err, leb, length}
 use Rattle.basis.specs.Answer.{done, refused}
 use Rattle.basis.specs.declared.refusal.Refusal.{Refusal}
 use Rattle.basis.specs.declared.refusal.Refusal.TheVariants.{BufferTooShort, LengthMismatch}
@@ -133,3 +133,8 @@ write_answer (Err r) length = refused r
 abbrev pub read_place : {A : Type 0} → Result A Refused → ℕ
 read_place (Ok value) = 0
 read_place (Err r) = r.place
+
+-- of its refusal alone, where there is one, the same place
+abbrev pub refusal_place : Option Refused → ℕ
+refusal_place None = 0
+refusal_place (Some r) = r.place

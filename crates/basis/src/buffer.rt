@@ -46,9 +46,14 @@ fn answered(needed: usize, given: usize) -> Answer
     Answer::done(0)
 }
 
+#[tactic(auto, using(crate::proofs::Puts::over_none))]
 fn copy(out: &mut [u8], at: usize, bytes: &[u8])
     requires { at + length bytes.now ≤ length out.old }
     ensures { out.new ≡ Bytes.over at bytes.now out.old }
 {
+    // Where there are no bytes the call of the copying is left out, as for a packet with no captions.
+    if bytes.is_empty() {
+        return;
+    }
     out[at..at + bytes.len()].copy_from_slice(bytes);
 }

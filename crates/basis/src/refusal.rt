@@ -1,7 +1,7 @@
 // Why a call refuses: the refusals of the table in docs/RULES.md, and beside one of reading the place of the byte that is
 // refused.
 ghost use Rattle.std.specs.Prelude.{◌≡◌};
-ghost use Rattle.basis.specs.Check.{refused_at};
+ghost use Rattle.basis.specs.Check.{refusal_place, refused_at};
 
 #[derive(Clone, Copy, PartialEq, Eq)]
 pub enum Refusal {
@@ -45,5 +45,15 @@ impl Refused {
         ensures { result ≡ refused_at refusal place }
     {
         Self { refusal, place }
+    }
+
+    // The place of what was refused, 0 where nothing was.
+    pub fn place_of(refused: Option<Self>) -> usize
+        ensures { result ≡ refusal_place refused }
+    {
+        match refused {
+            Some(refused) => refused.place,
+            None => 0,
+        }
     }
 }

@@ -23,11 +23,7 @@ pub fn turns(
         return Ok(());
     }
     // A refused packet leaves none, and zeros are then what is to be written.
-    let framerate = parser.framerate.unwrap_or(Framerate {
-        id: 0,
-        numer: 0,
-        denom: 0,
-    });
+    let framerate = parser.framerate.unwrap_or(Framerate::NONE);
     write(
         rt,
         holding(parser),

@@ -29,11 +29,11 @@ abbrev why : Answer → ℕ → Reason → Why
 why a place reason = record { answer = a; place = place; reason = reason }
 
 module _ (p : List ℕ) where
-  -- of a refusal, the test that it leaves, and what that takes
+  -- of a refusal, the test that its number leaves, and what that takes
   abbrev told_of : Refused → Why
   told_of r =
       let a : Answer = refused r.refusal in
-      why a r.place (reason_for p (test_from p r.refusal r.place) r.place a.first)
+      why a r.place (reason_for p (test_from p a.number r.place) r.place a.first)
 
   -- what the code makes of what testing gives, and the explanation of a verdict
   abbrev made_of : Result Checked Refused → Why
@@ -59,11 +59,11 @@ module _ (p : List ℕ) where
   pub refused_told : (r : Refused) → checked_read p ≡ Err r → told_of r ≡ why_of p
   refused_told r h = ap made_of (sym h) ∙ explained
 
-  tested_inside : read_place (checked_read p) ≤ length p
+  pub place_inside : read_place (checked_read p) ≤ length p
   unfolding checked_read
-  tested_inside =
+  place_inside =
       rw (place_read (verdict (packet_checks p)) (checked_shown p))
       (place_most true (length p) (verdict (packet_checks p)) (packet_inside p).it)
 
-  pub place_inside : (r : Refused) → checked_read p ≡ Err r → r.place ≤ length p
-  place_inside r h = rw h at tested_inside
+  pub refused_inside : (r : Refused) → checked_read p ≡ Err r → r.place ≤ length p
+  refused_inside r h = rw h at place_inside

@@ -60,7 +60,7 @@ impl Why {
             },
             Err(refused) => {
                 let answer = Answer::from(refused.refusal);
-                let test = test_of(packet, refused.refusal, refused.place);
+                let test = test_of(packet, answer.number, refused.place);
                 Self {
                     answer,
                     place: refused.place,

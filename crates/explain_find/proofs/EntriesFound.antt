@@ -1,4 +1,4 @@
--- The entries of a service section: the test that a refusal and its place leave, of each entry where it stands in the packet.
+-- The entries of a service section: the test that an answer and its place leave, of each entry where it stands in the packet.
 -- Assumes nothing.
 use mathlib.Core.Bool.{Bool, true, false, cond, not}
 use mathlib.Core.List.{List, ◌∷◌}
@@ -50,7 +50,7 @@ end_there b = refl
 
 module _ (p : List ℕ) where
   -- E2, of a digital service or of a field
-  kind_found : (there : ℕ → ℕ) (digital kept kept' : Bool) {cs : List Check} → test_from p InvalidFixedBits (there 3) ≡ Byte KindField
+  kind_found : (there : ℕ → ℕ) (digital kept kept' : Bool) {cs : List Check} → test_from p 4 (there 3) ≡ Byte KindField
       → Holds (FoundAt p there) cs
       → Holds (FoundAt p there)
       (cond digital (check_at 3 (Byte KindNumber) kept InvalidServiceNumber)
@@ -65,7 +65,7 @@ module _ (p : List ℕ) where
     d = services_part p (services_at p)
 
     in_entry : (o : ℕ) → o < 7
-        → test_from p InvalidFixedBits (services_at p + (at + o)) ≡ Byte (entry_test o (byte p (services_at p + (at + o))))
+        → test_from p 4 (services_at p + (at + o)) ≡ Byte (entry_test o (byte p (services_at p + (at + o))))
     unfolding bits_test
     in_entry o few =
         let i : ℕ = services_at p in
@@ -87,7 +87,7 @@ module _ (p : List ℕ) where
     -- its header byte and its byte 3, by a bit of each
     by_bit : (o : ℕ) (few : o < 7) (bit : ℕ → Bool) (on : Bool) (test : ByteTest)
         → ((b : ℕ) → bit b ≡ on → entry_test o b ≡ test) → bit (byte d (at + o)) ≡ on
-        → test_from p InvalidFixedBits (services_at p + (at + o)) ≡ Byte test
+        → test_from p 4 (services_at p + (at + o)) ≡ Byte test
     by_bit o few bit on test law h =
         in_entry o few
         ∙ ap Byte (law (byte p (services_at p + (at + o))) (sym (ap bit (packet_byte o few)) ∙ h))

@@ -1,4 +1,4 @@
--- The test that a packet's refusal and its place leave is the one that it fails first.
+-- The test that a packet's answer and its place leave is the one that it fails first.
 -- Assumes nothing.
 use mathlib.Core.Bool.{Bool, true, false, cond}
 use mathlib.Core.List.{List, [], ◌++◌}
@@ -11,9 +11,25 @@ use lib.ListN.{length}
 use Rattle.basis.proofs.Holds.{Holds, also, behind, both, fixed, if_there, none, where_moved}
 use Rattle.basis.proofs.Places.{byte_of_part}
 use Rattle.basis.proofs.Verdicts.{kept_at_lem}
+use Rattle.basis.specs.Answer.{refused}
 use Rattle.basis.specs.Bytes.{byte}
 use Rattle.basis.specs.Check.{Check, clear, moved, verdict, when}
-use Rattle.basis.specs.declared.refusal.Refusal.TheVariants.{InvalidFixedBits, LengthMismatch, WrongMagic}
+use Rattle.basis.specs.declared.refusal.Refusal.{Refusal}
+use Rattle.basis.specs.declared.refusal.Refusal.TheVariants.{
+  BufferTooShort,
+  ChecksumFailed,
+  InvalidFixedBits,
+  InvalidServiceNumber,
+  LengthMismatch,
+  NotWritable,
+  SequenceCountMismatch,
+  ServiceFlagsMismatched,
+  ServiceNumberMismatch,
+  UnknownFramerate,
+  WouldOverflow,
+  WrongCaptionRun,
+  WrongMagic,
+}
 use Rattle.basis.specs.declared.test.ByteTest.TheVariants.{CaptionsFixed, CaptionsId, FutureId, SectionFixed, ServicesId, TimeId}
 use Rattle.basis.specs.declared.test.SizeTest.{SizeTest}
 use Rattle.basis.specs.declared.test.Test.TheVariants.{Byte, Size}
@@ -32,28 +48,28 @@ use Rattle.explain_find.proofs.Layouts.{behind_time, no_captions, no_services, n
 use Rattle.explain_find.proofs.ClosingFound.{Come, comes_on, ends_behind, ends_in_footer, ends_in_future, sets_out}
 use Rattle.explain_find.proofs.SizesFound as Sizes
 use Rattle.values.specs.declared.flags.Flags.{Flags}
-use Rattle.explain_find.specs.Code.{bits_test, closing_test, id_test, test_from, time_test}
+use Rattle.explain_find.specs.Code.{bits_test, closing_test, id_test, test_from, test_left, time_test}
 use Rattle.explain_find.proofs.EntriesFound.{entries_found}
 use Rattle.explain_find.proofs.Leaves.{Found, FoundAt, of_bits, of_checksum, of_flags, of_id, of_magic, of_rate, of_sequence, of_size}
 
 module _ (p : List ℕ) where
   header_found : Holds (Found p) (header_checks p)
   header_found =
-      also (λ k. of_size p _ (length p) (Sizes.too_few p (leb-false 11 (length p) k)))
+      also (λ k. of_size p (length p) (Sizes.too_few p (leb-false 11 (length p) k)))
       (λ k. fixed (of_magic p)
-      (also (λ other. of_size p _ (length p) (Sizes.other_size p (leb-true 11 (length p) k) (eqb-false _ _ other)))
+      (also (λ other. of_size p (length p) (Sizes.other_size p (leb-true 11 (length p) k) (eqb-false _ _ other)))
       (λ _. fixed (of_rate p 3) none)))
 
   -- what is kept where a part is reached
   module _ (enough : 11 ≤ length p) (said : byte p 2 ≡ length p) where
     module _ (on : (flags_in p).time_code ≡ true) where
-      in_four : (place : ℕ) → place < 12 → test_from p InvalidFixedBits place ≡ Byte (time_test place)
+      in_four : (place : ℕ) → place < 12 → test_from p 4 place ≡ Byte (time_test place)
       unfolding bits_test
       in_four place h =
           let so : bits_test p place ≡ time_test place = simp (lt-ltb place (captions_at p) (omega (arith, h, behind_time p on))) in
           of_bits p place ∙ ap Byte so
 
-      time_id : test_from p WrongMagic 7 ≡ Byte TimeId
+      time_id : test_from p 2 7 ≡ Byte TimeId
       unfolding id_test
       time_id =
           let so : id_test p 7 ≡ TimeId = simp (lt-ltb 7 (captions_at p) (omega (arith, behind_time p on))) in
@@ -67,7 +83,7 @@ module _ (p : List ℕ) where
       time_found : Holds (Found p) (time_code_checks p time_code_at)
       time_found =
           also
-          (λ k. of_size p _ (length p)
+          (λ k. of_size p (length p)
           (Sizes.in_time p enough said (omega (arith, leb-false 12 (length p) k, behind_time p on))))
           (λ _. fixed time_id
           (where_moved 8 (of_four time_checks p 7) (λ rule h. h)
@@ -78,7 +94,7 @@ module _ (p : List ℕ) where
         captions_end : services_at p ≡ captions_at p + captions_size p (captions_at p)
         captions_end = rw on
 
-        captions_id : test_from p WrongMagic (captions_at p) ≡ Byte CaptionsId
+        captions_id : test_from p 2 (captions_at p) ≡ Byte CaptionsId
         unfolding id_test
         captions_id =
             let so : id_test p (captions_at p) ≡ CaptionsId =
@@ -88,7 +104,7 @@ module _ (p : List ℕ) where
             ) in
             of_id p (captions_at p) (omega arith) ∙ ap Byte so
 
-        captions_fixed : test_from p InvalidFixedBits (captions_at p + 1) ≡ Byte CaptionsFixed
+        captions_fixed : test_from p 4 (captions_at p + 1) ≡ Byte CaptionsFixed
         unfolding bits_test
         captions_fixed =
             let so : bits_test p (captions_at p + 1) ≡ CaptionsFixed =
@@ -103,12 +119,12 @@ module _ (p : List ℕ) where
             let at : ℕ = captions_at p in
             also
             (λ k. let short : length p < at + 2 = leb-false (at + 2) (length p) k in
-            of_size p _ (length p)
+            of_size p (length p)
             (Sizes.at_captions p enough said time (omega (arith, short, captions_end)) short))
             (λ k. fixed captions_id
             (fixed captions_fixed
             (also
-            (λ cut. of_size p _ (length p)
+            (λ cut. of_size p (length p)
             (Sizes.in_captions p enough said time
             (omega (arith, captions_end, leb-false (at + captions_size p at) (length p) cut))
             (leb-true (at + 2) (length p) k)))
@@ -119,7 +135,7 @@ module _ (p : List ℕ) where
           services_end : closing_at p ≡ services_at p + services_size p (services_at p)
           services_end = rw on
 
-          services_id : test_from p WrongMagic (services_at p) ≡ Byte ServicesId
+          services_id : test_from p 2 (services_at p) ≡ Byte ServicesId
           unfolding id_test
           services_id =
               let so : id_test p (services_at p) ≡ ServicesId =
@@ -130,7 +146,7 @@ module _ (p : List ℕ) where
               ) in
               of_id p (services_at p) (omega arith) ∙ ap Byte so
 
-          section_fixed : test_from p InvalidFixedBits (services_at p + 1) ≡ Byte SectionFixed
+          section_fixed : test_from p 4 (services_at p + 1) ≡ Byte SectionFixed
           unfolding bits_test
           section_fixed =
               let so : bits_test p (services_at p + 1) ≡ SectionFixed =
@@ -169,11 +185,11 @@ module _ (p : List ℕ) where
               let i : ℕ = services_at p in
               also
               (λ k. let short : length p < i + 2 = leb-false (i + 2) (length p) k in
-              of_size p _ (length p)
+              of_size p (length p)
               (Sizes.at_services p enough said time captions (omega (arith, short, services_end)) short))
               (λ k. also (λ _. services_id)
               (λ id. also
-              (λ cut. of_size p _ (length p)
+              (λ cut. of_size p (length p)
               (Sizes.in_services p enough said time captions
               (omega (arith, services_end, leb-false (i + services_size p i) (length p) cut))
               (leb-true (i + 2) (length p) k)))
@@ -183,7 +199,7 @@ module _ (p : List ℕ) where
               (fixed (of_flags p 4) none))))
 
         module _ (services : closing_at p ≤ length p) where
-          future_id : (i : ℕ) → closing_at p ≤ i → test_from p WrongMagic i ≡ Byte FutureId
+          future_id : (i : ℕ) → closing_at p ≤ i → test_from p 2 i ≡ Byte FutureId
           unfolding id_test
           future_id i behind_all =
               let so : id_test p i ≡ FutureId =
@@ -195,13 +211,12 @@ module _ (p : List ℕ) where
               of_id p i (omega (arith, behind_all)) ∙ ap Byte so
 
           module _ (there : closing_at p + 2 ≤ length p) (sequence : ℕ) where
-            walked : {test : SizeTest} (expected : ℕ) → test ≡ closing_test (length p) p (closing_at p)
-                → test_from p (LengthMismatch expected (length p)) (length p) ≡ Size test
-            walked expected e = of_size p _ (length p) (e ∙ Sizes.in_closing p enough said time captions services there)
+            walked : {test : SizeTest} → test ≡ closing_test (length p) p (closing_at p) → test_from p 1 (length p) ≡ Size test
+            walked e = of_size p (length p) (e ∙ Sizes.in_closing p enough said time captions services there)
 
             footer_found : (i : ℕ) → Come p (closing_at p) i → byte p i ≡ 0x74 → Holds (Found p) (footer_checks p sequence i)
             footer_found i come id =
-                also (λ _. walked _ (ends_in_footer p (closing_at p) i come id))
+                also (λ _. walked (ends_in_footer p (closing_at p) i come id))
                 (λ _. fixed (of_sequence p (i + 1)) (fixed (of_checksum p (i + 3)) none))
 
             turn_found : (turns i : ℕ) (here : Bool) → eqb (byte p i) 0x74 ≡ here → Come p (closing_at p) i → closing_at p ≤ i
@@ -217,11 +232,11 @@ module _ (p : List ℕ) where
                 let next : ℕ = i + 2 + future_length p i in
                 also (λ _. future_id i behind_all)
                 (λ _. also
-                (λ k. walked _ (ends_in_future p (closing_at p) i come other
+                (λ k. walked (ends_in_future p (closing_at p) i come other
                 (leb-false (i + 1 + future_length p i) (length p) k)))
                 (λ fits. let whole = leb-true (i + 1 + future_length p i) (length p) fits in
                 also
-                (λ k. walked _ (ends_behind p (closing_at p) i come other whole (leb-false (next + 2) (length p) k)))
+                (λ k. walked (ends_behind p (closing_at p) i come other whole (leb-false (next + 2) (length p) k)))
                 (λ more. later (comes_on p (closing_at p) i come other whole (leb-true (next + 2) (length p) more)))))
 
             futures_found : (turns i : ℕ) → length p ≤ turns + i → Come p (closing_at p) i → closing_at p ≤ i
@@ -236,7 +251,7 @@ module _ (p : List ℕ) where
           closing_found sequence =
               let at : ℕ = closing_at p in
               also
-              (λ k. of_size p _ (length p)
+              (λ k. of_size p (length p)
               (Sizes.at_closing p enough said time captions services (leb-false (at + 2) (length p) k)))
               (λ k. let there : at + 2 ≤ length p = leb-true (at + 2) (length p) k in
               futures_found there sequence (length p) at (omega arith) (sets_out p at there) (omega arith))
@@ -282,3 +297,20 @@ module _ (p : List ℕ) where
       let on : services_at p ≤ length p = captions_whole f.cc_data refl here captioned in
       behind services closing (if_there f.svc_info (services_found enough said here on))
       (λ listed. closing_found enough said here on (services_whole f.svc_info refl on listed) (sequence_in p)))))
+
+  -- Of a refusal it is the one that its case leaves, at any place.
+  pub refusal_leaves : (refusal : Refusal) (place : ℕ) → test_from p (refused refusal).number place ≡ test_left p refusal place
+  unfolding test_from test_left
+  refusal_leaves (LengthMismatch expected actual) place = refl
+  refusal_leaves WrongMagic place = refl
+  refusal_leaves UnknownFramerate place = refl
+  refusal_leaves InvalidFixedBits place = refl
+  refusal_leaves ChecksumFailed place = refl
+  refusal_leaves SequenceCountMismatch place = refl
+  refusal_leaves ServiceNumberMismatch place = refl
+  refusal_leaves InvalidServiceNumber place = refl
+  refusal_leaves ServiceFlagsMismatched place = refl
+  refusal_leaves WouldOverflow place = refl
+  refusal_leaves (BufferTooShort needed given) place = refl
+  refusal_leaves NotWritable place = refl
+  refusal_leaves WrongCaptionRun place = refl

@@ -1,4 +1,4 @@
--- Follows the code and not the rules: the test that a packet's refusal and its place leave. Each part begins where the one in
+-- Follows the code and not the rules: the test that a packet's answer and its place leave. Each part begins where the one in
 -- front of it ends, so that a place tells its part, and a size the part that the packet ends in.
 use Rattle.std.specs.Prelude.{cond, List, ℕ, zero, suc, ◌+◌, ◌-◌, ◌%◌, eqb, ltb, length}
 use Rattle.basis.specs.Bytes.{byte}
@@ -109,18 +109,29 @@ bits_test p place =
     (cond (ltb place (services_at p + section_head_size)) SectionFixed
     (entry_test ((place - services_at p - section_head_size) % section_entry_size) (byte p place))))
 
--- the test that a refusal at a place leaves; no reader refuses by the last four
-unfoldable pub test_from : List ℕ → Refusal → ℕ → Test
-test_from p (LengthMismatch expected actual) place = Size (size_test p)
-test_from p WrongMagic place = cond (eqb place 0) (Pair Magic) (Byte (id_test p place))
-test_from p UnknownFramerate place = Byte Rate
-test_from p InvalidFixedBits place = Byte (bits_test p place)
-test_from p ChecksumFailed place = Byte Checksum
-test_from p SequenceCountMismatch place = Pair FooterSequence
-test_from p ServiceNumberMismatch place = Byte HeaderNumber
-test_from p InvalidServiceNumber place = Byte KindNumber
-test_from p ServiceFlagsMismatched place = Byte ServicesFlags
-test_from p WouldOverflow place = Byte ServicesFlags
-test_from p (BufferTooShort needed given) place = Byte ServicesFlags
-test_from p NotWritable place = Byte ServicesFlags
-test_from p WrongCaptionRun place = Byte ServicesFlags
+-- the test that an answer's number and a place leave
+unfoldable pub test_from : List ℕ → ℕ → ℕ → Test
+test_from p number place =
+    cond (eqb number 1) (Size (size_test p))
+    (cond (eqb number 2) (cond (eqb place 0) (Pair Magic) (Byte (id_test p place)))
+    (cond (eqb number 3) (Byte Rate)
+    (cond (eqb number 4) (Byte (bits_test p place))
+    (cond (eqb number 5) (Byte Checksum)
+    (cond (eqb number 6) (Pair FooterSequence)
+    (cond (eqb number 7) (Byte HeaderNumber) (cond (eqb number 8) (Byte KindNumber) (Byte ServicesFlags))))))))
+
+-- the same by the refusal whose number it is; no reader refuses by the last four
+unfoldable pub test_left : List ℕ → Refusal → ℕ → Test
+test_left p (LengthMismatch expected actual) place = Size (size_test p)
+test_left p WrongMagic place = cond (eqb place 0) (Pair Magic) (Byte (id_test p place))
+test_left p UnknownFramerate place = Byte Rate
+test_left p InvalidFixedBits place = Byte (bits_test p place)
+test_left p ChecksumFailed place = Byte Checksum
+test_left p SequenceCountMismatch place = Pair FooterSequence
+test_left p ServiceNumberMismatch place = Byte HeaderNumber
+test_left p InvalidServiceNumber place = Byte KindNumber
+test_left p ServiceFlagsMismatched place = Byte ServicesFlags
+test_left p WouldOverflow place = Byte ServicesFlags
+test_left p (BufferTooShort needed given) place = Byte ServicesFlags
+test_left p NotWritable place = Byte ServicesFlags
+test_left p WrongCaptionRun place = Byte ServicesFlags

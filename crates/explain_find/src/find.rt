@@ -1,5 +1,5 @@
-// The test that is left by the refusal and its place. Each part begins where the one in front of it ends, so that a
-// place tells its part, and a size the part that the packet ends in.
+// The test that is left by the answer's number and its place. Each part begins where the one in front of it ends, so
+// that a place tells its part, and a size the part that the packet ends in.
 ghost use Rattle.std.specs.Prelude.{cond, ◌≡◌, ◌+◌, ◌≤◌, eqb, length};
 ghost use Rattle.basis.specs.declared.test.PairTest.TheVariants.{Magic};
 ghost use Rattle.basis.specs.declared.test.Test.TheVariants.{Byte, Pair};
@@ -7,28 +7,23 @@ ghost use Rattle.values.specs.Layout.{section_head_size};
 ghost use Rattle.explain_find.specs.Code.{bits_test, closing_test, entry_test, id_test, size_test, test_from, time_test};
 
 use crate::layout::{captions_at, closing_at, services_at};
-use basis::{ByteTest, PairTest, Refusal, SizeTest, Test, byte_at};
+use basis::{ByteTest, PairTest, SizeTest, Test, byte_at};
 use values::Packet;
 
 #[tactic(auto, unfolding(crate::specs::Code::test_from))]
-pub fn test_of(packet: &[u8], refusal: Refusal, place: usize) -> Test
-    ensures { result ≡ test_from packet.now refusal place }
+pub fn test_of(packet: &[u8], number: u8, place: usize) -> Test
+    ensures { result ≡ test_from packet.now number place }
 {
-    match refusal {
-        Refusal::LengthMismatch(_, _) => Test::Size(size_test(packet)),
-        Refusal::WrongMagic => id_or_magic(packet, place),
-        Refusal::UnknownFramerate => Test::Byte(ByteTest::Rate),
-        Refusal::InvalidFixedBits => Test::Byte(bits_test(packet, place)),
-        Refusal::ChecksumFailed => Test::Byte(ByteTest::Checksum),
-        Refusal::SequenceCountMismatch => Test::Pair(PairTest::FooterSequence),
-        Refusal::ServiceNumberMismatch => Test::Byte(ByteTest::HeaderNumber),
-        Refusal::InvalidServiceNumber => Test::Byte(ByteTest::KindNumber),
-        Refusal::ServiceFlagsMismatched
-        // No reader refuses by these.
-        | Refusal::WouldOverflow
-        | Refusal::BufferTooShort(_, _)
-        | Refusal::NotWritable
-        | Refusal::WrongCaptionRun => Test::Byte(ByteTest::ServicesFlags),
+    match number {
+        1 => Test::Size(size_test(packet)),
+        2 => id_or_magic(packet, place),
+        3 => Test::Byte(ByteTest::Rate),
+        4 => Test::Byte(bits_test(packet, place)),
+        5 => Test::Byte(ByteTest::Checksum),
+        6 => Test::Pair(PairTest::FooterSequence),
+        7 => Test::Byte(ByteTest::HeaderNumber),
+        8 => Test::Byte(ByteTest::KindNumber),
+        _ => Test::Byte(ByteTest::ServicesFlags),
     }
 }
 

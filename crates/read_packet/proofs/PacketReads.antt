@@ -204,6 +204,14 @@ module _ (p : List ℕ) where
           closing_refused r h =
               stops closing clear tt r (behind_services ∙ sym (and_clear closing)) (sym closing_at_so ∙ h)
 
+          pub packet_whole : {u : Unit} → closing_read p headed.sequence (header_size + timed.size + run + listed) ≡ Ok u
+              → Ok (checked_shown p) ≡ checked_read p
+          unfolding closing_read checked_read
+          packet_whole h =
+              ap (λ (v : Verdict). read_as v (checked_shown p))
+              (sym (behind_services ∙ given_clear _ closing tt _ (sym closing_at_so ∙ h)))
+
+          -- the same of what was read of each part
           pub packet_accepted : {u : Unit} → closing_read p headed.sequence (header_size + timed.size + run + listed) ≡ Ok u
               → ◌≡◌ {A = Result Checked Refused}
               (Ok (record {
@@ -216,11 +224,7 @@ module _ (p : List ℕ) where
                 services_at = header_size + timed.size + run;
               }))
               (checked_read p)
-          unfolding closing_read checked_read
-          packet_accepted h =
-              rw (header_is, timed_is, run_is)
-              (ap (λ (v : Verdict). read_as v (checked_shown p))
-              (sym (behind_services ∙ given_clear _ closing tt _ (sym closing_at_so ∙ h))))
+          packet_accepted h = rw (header_is, timed_is, run_is) (packet_whole h)
 
           pub closing_fits : header_size + timed.size + run + listed ≤ 214
           closing_fits = omega (arith, closing_near, timed_size, run_is, listed_is)

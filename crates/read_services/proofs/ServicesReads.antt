@@ -18,7 +18,7 @@ use Rattle.basis.specs.declared.refusal.Refusal.TheVariants.{LengthMismatch, Ser
 use Rattle.basis.specs.declared.refusal.Refused.{Refused}
 use Rattle.std.specs.Prelude.{Ok, Err}
 use Rattle.basis.specs.Bytes.{byte, part}
-use Rattle.basis.specs.Check.{Check, Verdict, check_at, clear, moved, refused_at, verdict}
+use Rattle.basis.specs.Check.{Check, Verdict, check_at, clear, moved, read_place, refused_at, verdict}
 use Rattle.basis.specs.declared.test.ByteTest.TheVariants.{ServicesFlags}
 use Rattle.basis.specs.declared.test.Test.TheVariants.{Byte}
 use Rattle.basis.specs.Code.{tested}
@@ -62,12 +62,17 @@ pub count_at : (p : List ℕ) (i : ℕ) → count_of (services_part p i) ≡ und
 count_at p i = ap (under x0f) (byte_one p i)
 
 -- what a section is refused for has its place in the section or at its end, as the code has its bytes
-pub near : (p : List ℕ) (i header : ℕ) (r : Refused) → section_outcome (part i (i + section_length (header % 16) - i) p) ≡ Err r
-    → r.place ≤ section_length 15
-near p i header r h =
+pub near : (p : List ℕ) (i header : ℕ)
+    → read_place (section_outcome (part i (i + section_length (header % 16) - i) p)) ≤ section_length 15
+near p i header =
     let size : ℕ = i + section_length (header % 16) - i in
     let long : length (part i size p) ≤ size = simp length-take (omega arith) in
-    omega (arith, section_near (part i size p) r h, long)
+    omega (arith, section_near (part i size p), long)
+
+-- so is that of a refusal that was given
+pub near_refused : (p : List ℕ) (i header : ℕ) (r : Refused) → section_outcome (part i (i + section_length (header % 16) - i) p) ≡ Err r
+    → r.place ≤ section_length 15
+near_refused p i header r h = rw (← ap read_place h) (near p i header)
 
 -- in a packet its bytes are as many as it says, so that S4 refuses none
 own_size : (p : List ℕ) (i : ℕ) → i + services_size p i ≤ length p → length (services_part p i) ≡ services_size p i

@@ -10,7 +10,7 @@ use values::{Flags, Packet};
 
 // Tests the section at a place, where the header says that it is there. Its list is made behind the packet's last test,
 // by the reader.
-#[tactic(auto, using(crate::proofs::ServicesReads::not_there, crate::proofs::ServicesReads::too_short, crate::proofs::ServicesReads::other_id, crate::proofs::ServicesReads::entries_cut, crate::proofs::ServicesReads::near, crate::proofs::ServicesReads::section_refused, crate::proofs::ServicesReads::other_flags, crate::proofs::ServicesReads::services_whole))]
+#[tactic(auto, using(crate::proofs::ServicesReads::not_there, crate::proofs::ServicesReads::too_short, crate::proofs::ServicesReads::other_id, crate::proofs::ServicesReads::entries_cut, crate::proofs::ServicesReads::near_refused, crate::proofs::ServicesReads::section_refused, crate::proofs::ServicesReads::other_flags, crate::proofs::ServicesReads::services_whole))]
 pub fn test_services(packet: &[u8], flags: Flags, at: u8) -> Result<usize, Refused>
     ensures { result ≡ services_tested packet.now flags at }
 {

@@ -35,7 +35,7 @@ answered p present i = answer_read (verdict (when present (time_code_checks p i)
 
 module _ (p : List ℕ) (i : ℕ) where
   -- the four bytes behind the id byte, read
-  abbrev four_read : Result TimeCode Refused
+  abbrev pub four_read : Result TimeCode Refused
   four_read = of_four time_read p i
 
   abbrev four_checks : List Check

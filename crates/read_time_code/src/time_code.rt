@@ -16,7 +16,7 @@ pub struct TimeCodeSection {
 
 impl TimeCodeSection {
     // Reads the section at a place, where the header says that it is there.
-    #[tactic(auto, using(crate::proofs::TimeCodeReads::not_there, crate::proofs::TimeCodeReads::too_short, crate::proofs::TimeCodeReads::other_id, crate::proofs::TimeCodeReads::bytes_wrong, crate::proofs::TimeCodeReads::time_code_whole, values_time::proofs::TimeReads::time_near))]
+    #[tactic(auto, using(crate::proofs::TimeCodeReads::not_there, crate::proofs::TimeCodeReads::too_short, crate::proofs::TimeCodeReads::other_id, crate::proofs::TimeCodeReads::bytes_wrong, crate::proofs::TimeCodeReads::time_code_whole, values_time::proofs::TimeReads::time_near_refused))]
     pub fn parse(packet: &[u8], present: bool, at: u8) -> Result<Self, Refused>
         ensures { result ≡ time_code_read packet.now present at }
     {

@@ -82,20 +82,21 @@ impl CDPParser {
                 parser: self,
             };
         }
-        match Checked::parse(packet) {
-            Ok(read) => {
-                hand_out(packet, read.flags.cc_data, read.captions_at, captions);
-                CDPParserRead {
-                    answer: Answer::done(read.captions),
-                    place: 0,
-                    parser: shown(read, packet),
-                }
+        let read = match Checked::parse(packet) {
+            Ok(read) => read,
+            Err(refused) => {
+                return CDPParserRead {
+                    answer: Answer::from(refused.refusal),
+                    place: refused.place,
+                    parser: self.cleared(),
+                };
             }
-            Err(refused) => CDPParserRead {
-                answer: Answer::from(refused.refusal),
-                place: refused.place,
-                parser: self.cleared(),
-            },
+        };
+        hand_out(packet, read.flags.cc_data, read.captions_at, captions);
+        CDPParserRead {
+            answer: Answer::done(read.captions),
+            place: 0,
+            parser: shown(read, packet),
         }
     }
 

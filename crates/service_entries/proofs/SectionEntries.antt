@@ -297,7 +297,7 @@ module _ (d : List ℕ) where
       (at_kept (from + section_entry_size) n k (omega arith)
       (append_second (moved from (checks_at d from)) (entry_list_checks d (from + section_entry_size) n) v))
 
-  entry_held : (from count k : ℕ) → verdict (entry_list_checks d from count) ≡ clear → k < count
+  pub entry_held : (from count k : ℕ) → verdict (entry_list_checks d from count) ≡ clear → k < count
       → entry_read (six_behind d (from + section_entry_size * k)) ≡ Ok (entry_of (six_behind d (from + section_entry_size * k)))
   unfolding entry_read
   entry_held from count k v h =
@@ -316,7 +316,10 @@ module _ (d : List ℕ) (right : verdict (section_checks d) ≡ clear) where
       let said : length d ≡ section_length (count_of d) = eqb-true _ _ (kept_at_lem 3 (section_checks d) right) in
       omega (arith, said)
 
+  pub entries_right : verdict (entry_list_checks d 2 (count_of d)) ≡ clear
+  unfolding section_checks
+  entries_right = kept_from 4 (section_checks d) right
+
   pub entry_right : (k : ℕ) → k < count_of d
       → entry_read (six_behind d (2 + section_entry_size * k)) ≡ Ok (entry_of (six_behind d (2 + section_entry_size * k)))
-  unfolding section_checks
-  entry_right k h = entry_held d 2 (count_of d) k (kept_from 4 (section_checks d) right) h
+  entry_right k h = entry_held d 2 (count_of d) k entries_right h

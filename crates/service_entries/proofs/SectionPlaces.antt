@@ -27,11 +27,15 @@ at_within d at =
     (both (moved 1 (entry_checks (six_behind d at))) _
     (part_inside false 1 6 7 (entry_checks (six_behind d at)) (omega arith) (entry_within (six_behind d at))) (fixed refl none)))
 
-pub at_near : (d : List ℕ) (at : ℕ) (r : Refused) → entry_outcome d at ≡ Err r → r.place ≤ 7
+pub at_near : (d : List ℕ) (at : ℕ) → read_place (entry_outcome d at) ≤ 7
 unfolding entry_outcome
-at_near d at r h =
+at_near d at =
     let v : Verdict = verdict (checks_at d at) in
-    omega (arith, ap read_place h, place_read {A = Unit} v tt, place_most false 7 v (at_within d at).it)
+    rw (place_read {A = Unit} v tt) (place_most false 7 v (at_within d at).it)
+
+-- so is that of a refusal that was given
+pub at_near_refused : (d : List ℕ) (at : ℕ) (r : Refused) → entry_outcome d at ≡ Err r → r.place ≤ 7
+at_near_refused d at r h = rw (← ap read_place h) (at_near d at)
 
 entries_placed : (may_be_one : Bool) (d : List ℕ) (at n : ℕ) → at + section_entry_size * n ≤ length d
     → Holds (So (placed_in may_be_one (length d))) (entry_list_checks d at n)
@@ -63,11 +67,14 @@ section_placed may_be_one d right =
 pub section_inside : (d : List ℕ) → Inside (length d) (section_checks d)
 section_inside d = section_placed true d (λ s. absurd (true≢false s))
 
-pub section_near : (d : List ℕ) (r : Refused) → section_outcome d ≡ Err r → r.place ≤ length d
+pub section_near : (d : List ℕ) → read_place (section_outcome d) ≤ length d
 unfolding section_outcome
-section_near d r h =
+section_near d =
     let v : Verdict = verdict (section_checks d) in
-    omega (arith, ap read_place h, place_read {A = Unit} v tt, place_most true (length d) v (section_inside d).it)
+    rw (place_read {A = Unit} v tt) (place_most true (length d) v (section_inside d).it)
+
+pub section_near_refused : (d : List ℕ) (r : Refused) → section_outcome d ≡ Err r → r.place ≤ length d
+section_near_refused d r h = rw (← ap read_place h) (section_near d)
 
 -- one that has the size that its count says, as in a packet: it is not answered 1
 pub section_within : (d : List ℕ) → length d ≡ section_length (count_of d) → Within (length d) (section_checks d)

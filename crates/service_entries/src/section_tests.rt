@@ -37,7 +37,7 @@ pub fn test_section(data: &[u8]) -> Result<(), Refused>
 }
 
 // Tests the entries behind the section's two bytes, first to last.
-#[tactic(auto, using(crate::proofs::SectionPlaces::at_near, crate::proofs::SectionEntries::section_refused, crate::proofs::SectionEntries::left_goes_on, crate::proofs::SectionEntries::section_whole))]
+#[tactic(auto, using(crate::proofs::SectionPlaces::at_near_refused, crate::proofs::SectionEntries::section_refused, crate::proofs::SectionEntries::left_goes_on, crate::proofs::SectionEntries::section_whole))]
 fn test_entries(data: &[u8], header: u8) -> Result<(), Refused>
     requires { Code.Framed «data».now header }
     ensures { result ≡ Code.section_outcome «data».now }
@@ -54,7 +54,7 @@ fn test_entries(data: &[u8], header: u8) -> Result<(), Refused>
 }
 
 // Tests the header byte at a place and the entry behind it. Its places are counted from the header byte.
-#[tactic(auto, using(service_entry::proofs::EntryReads::entry_near, crate::proofs::SectionEntries::header_no_80, crate::proofs::SectionEntries::header_no_20, crate::proofs::SectionEntries::entry_refused, crate::proofs::SectionEntries::other_number, crate::proofs::SectionEntries::same_number))]
+#[tactic(auto, using(service_entry::proofs::EntryReads::entry_near_refused, crate::proofs::SectionEntries::header_no_80, crate::proofs::SectionEntries::header_no_20, crate::proofs::SectionEntries::entry_refused, crate::proofs::SectionEntries::other_number, crate::proofs::SectionEntries::same_number))]
 fn test_at(data: &[u8], at: usize) -> Result<(), Refused>
     requires { at + section_entry_size ≤ length «data».now }
     ensures { result ≡ Code.entry_outcome «data».now at }

@@ -83,11 +83,15 @@ entry_within e =
     (fixed (kind_within (all_set x80 (byte e 3)) (not (all_clear x3f (byte e 3))) (all_set x3e (byte e 3)))
     (fixed refl (fixed refl none)))
 
-pub entry_near : (e : List ℕ) (r : Refused) → entry_read e ≡ Err r → r.place ≤ 6
+pub entry_near : (e : List ℕ) → read_place (entry_read e) ≤ 6
 unfolding entry_read
-entry_near e r h =
+entry_near e =
     let v : Verdict = verdict (entry_checks e) in
-    omega (arith, ap read_place h, place_read v (entry_of e), place_most false 6 v (entry_within e).it)
+    rw (place_read v (entry_of e)) (place_most false 6 v (entry_within e).it)
+
+-- so is that of a refusal that was given
+pub entry_near_refused : (e : List ℕ) (r : Refused) → entry_read e ≡ Err r → r.place ≤ 6
+entry_near_refused e r h = rw (← ap read_place h) (entry_near e)
 
 -- what bytes 3 and 4 name
 module _ (k f : ℕ) where

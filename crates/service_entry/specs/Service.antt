@@ -1,5 +1,6 @@
 -- What a list holds: entries, each a language and what it names.
-use Rattle.std.specs.Prelude.{Bool, true, List, [], ◌∷◌, ℕ}
+use Rattle.std.specs.Prelude.{Bool, true, List, [], ◌∷◌, ℕ, Result, Ok, Err}
+use Rattle.basis.specs.declared.refusal.Refused.{Refused}
 use Rattle.service_entry.specs.declared.entry.ServiceEntry.{ServiceEntry}
 use Rattle.service_entry.specs.declared.service.DigitalServiceEntry.{DigitalServiceEntry}
 use Rattle.service_entry.specs.declared.service.FieldOrService.{FieldOrService}
@@ -14,6 +15,11 @@ entry language service = record { language = language; service = service }
 -- what places past a list's count hold: language 0 0 0, field 1
 abbrev pub filler : ServiceEntry
 filler = entry (0 ∷ 0 ∷ 0 ∷ []) (Field true)
+
+-- what is shown of a reading: the entry, or the filler where it was refused
+abbrev pub entry_shown : Result ServiceEntry Refused → ServiceEntry
+entry_shown (Ok e) = e
+entry_shown (Err r) = filler
 
 -- S8: the number that an entry's header byte has to name: the digital number, or 0 for a field
 abbrev pub number_of : FieldOrService → ℕ

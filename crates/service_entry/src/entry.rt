@@ -75,6 +75,13 @@ impl ServiceEntry {
         }
         Ok(Self::of_bytes(bytes))
     }
+
+    // What is shown of a reading: the entry, or the filler where it was refused.
+    pub fn shown(read: Result<Self, Refused>) -> Self
+        ensures { result ≡ Service.entry_shown read }
+    {
+        read.unwrap_or(Self::FILLER)
+    }
 }
 
 // What bytes 3 and 4 name, whatever their fixed bits are.

@@ -34,7 +34,7 @@ use Rattle.service_entries.specs.Entries.{
 }
 use Rattle.service_list.specs.Section.{section_read, list_of}
 use Rattle.service_entry.specs.Service.{number_of}
-use Rattle.service_list.specs.ServiceList.{list}
+use Rattle.service_list.specs.ServiceList.{empty, list, list_shown}
 use Rattle.basis.specs.Writing.{Written}
 use Rattle.service_entry.specs.EntryWriting.{writable, header_byte, entry_bytes, seven_bytes}
 use Rattle.service_entry.specs.Code.{all_writable}
@@ -270,6 +270,11 @@ pub field_two_refused : (l : ServiceInfo) → Ready l → names_field_two (count
 unfolding section_read
 field_two_refused l r some = rw (section_verdict l r, some)
 
+-- What is shown of that is the empty list.
+pub field_two_shown : (l : ServiceInfo) → Ready l → names_field_two (counted l) ≡ true
+    → list_shown (section_read (section_bytes l)) ≡ empty
+field_two_shown l r some = ap list_shown (field_two_refused l r some)
+
 -- The same of what the writer leaves in a buffer, where it answers 0: reading as many first bytes as it answers gives the list
 -- back, or 7 where it names field 2. The writer itself has seen to count and numbers.
 module _ (l : ServiceInfo) (buffer : List ℕ) (taken : eqb (section_written l buffer).answer.number 0 ≡ true) where
@@ -292,3 +297,7 @@ module _ (l : ServiceInfo) (buffer : List ℕ) (taken : eqb (section_written l b
       → section_read (take (section_written l buffer).answer.first (section_written l buffer).buffer)
       ≡ Err (refused_at ServiceNumberMismatch (section_length (before_field_two (counted l))))
   written_field_two h = rw first_written (field_two_refused l ready h)
+
+  pub written_field_two_shown : names_field_two (counted l) ≡ true
+      → list_shown (section_read (take (section_written l buffer).answer.first (section_written l buffer).buffer)) ≡ empty
+  written_field_two_shown h = ap list_shown (written_field_two h)

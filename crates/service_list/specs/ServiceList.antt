@@ -1,5 +1,5 @@
 -- The list: three flags, fifteen places, a count; and the calls on it.
-use Rattle.std.specs.Prelude.{Bool, true, false, cond, List, [], ◌∷◌, ℕ, ◌+◌, leb, ltb, set}
+use Rattle.std.specs.Prelude.{Bool, true, false, cond, List, [], ◌∷◌, ℕ, ◌+◌, Result, Ok, Err, leb, ltb, set}
 use Rattle.basis.specs.declared.refusal.Refusal.TheVariants.{WouldOverflow}
 use Rattle.basis.specs.Check.{WriteCheck, check, verdict, answer, if_clear}
 use Rattle.service_entries.specs.Entries.{places, fillers}
@@ -8,6 +8,7 @@ use Rattle.service_list.specs.declared.list.MaybeServiceInfo.{MaybeServiceInfo}
 use Rattle.service_list.specs.declared.list.ServiceInfo.{ServiceInfo}
 use Rattle.service_list.specs.declared.list.ServiceInfoAdded.{ServiceInfoAdded}
 use Rattle.basis.specs.declared.answer.Answer.{Answer}
+use Rattle.basis.specs.declared.refusal.Refused.{Refused}
 use Rattle.values.specs.Layout.{section_length}
 
 abbrev pub list : Bool → Bool → Bool → List ServiceEntry → ℕ → ServiceInfo
@@ -16,6 +17,11 @@ list start change complete services count =
 
 abbrev pub empty : ServiceInfo
 empty = list false false false fillers 0
+
+-- what is shown of a section that was read: the list, or the empty one where it was refused
+abbrev pub list_shown : Result ServiceInfo Refused → ServiceInfo
+list_shown (Ok l) = l
+list_shown (Err r) = empty
 
 -- a list that is there, and one that is not
 abbrev pub list_present : ServiceInfo → MaybeServiceInfo

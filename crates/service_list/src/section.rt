@@ -1,6 +1,7 @@
 // A section, read: its entries, and the list's three flags.
 ghost use Rattle.std.specs.Prelude.{◌≡◌};
 ghost use Rattle.service_list.specs.Section as Section;
+ghost use Rattle.service_list.specs.ServiceList.{list_shown};
 
 use crate::list::ServiceInfo;
 use basis::Refused;
@@ -15,6 +16,13 @@ impl ServiceInfo {
     {
         let services = read_entries(data)?;
         Ok(Self::with(data[1], services))
+    }
+
+    // What is shown of a reading: the list, or the empty one where it was refused.
+    pub fn shown(read: Result<Self, Refused>) -> Self
+        ensures { result ≡ list_shown read }
+    {
+        read.unwrap_or(Self::default())
     }
 
     // The list that a section's byte 1 and these places make.

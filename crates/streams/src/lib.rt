@@ -5,5 +5,5 @@
 mod input;
 mod output;
 
-pub use input::{read_all, read_part};
+pub use input::{Unread, read_all, read_part};
 pub use output::{write, write_first, write_line};

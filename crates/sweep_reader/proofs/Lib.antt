@@ -1,3 +1,4 @@
 pub mod Changes
 pub mod Mends
 pub mod Parts
+pub mod Rows

@@ -24,11 +24,7 @@ fn rate(digest: u64, shown: Option<Framerate>) -> u64
     ensures { result ≡ Shown.rate_fed digest shown }
 {
     let present = flag_fed(digest, shown.is_some());
-    let framerate = shown.unwrap_or(Framerate {
-        id: 0,
-        numer: 0,
-        denom: 0,
-    });
+    let framerate = shown.unwrap_or(Framerate::NONE);
     let id = feed(present, framerate.id);
     four(four(id, framerate.numer as u64), framerate.denom as u64)
 }

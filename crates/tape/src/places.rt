@@ -21,12 +21,8 @@ pub fn entry(bytes: [u8; 6], out: &mut Output<impl Print + Eprint>) {
     alone(out, b"C ", ServiceEntry::parse(bytes).err());
 }
 
-// Done is at 0.
 fn alone(out: &mut Output<impl Print + Eprint>, letter: &[u8], refused: Option<Refused>) {
-    let place = match refused {
-        Some(refused) => refused.place,
-        None => 0,
-    };
+    let place = Refused::place_of(refused);
     placed(out, letter, show::outcome(refused), place);
 }
 

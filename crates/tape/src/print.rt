@@ -14,6 +14,8 @@ pub struct Output<'a, R> {
     at: Option<usize>,
 }
 
+// What is put is mostly a byte or a short word, so what puts these, and `room`, are built into their callers: as calls they
+// took a quarter and more of the tape's work.
 impl<'a, R: Print + Eprint> Output<'a, R> {
     pub fn new(rt: &'a R) -> Self
         ensures rt { result.rt.now ≡ rt.now }
@@ -33,17 +35,21 @@ impl<'a, R: Print + Eprint> Output<'a, R> {
         self.at.is_none()
     }
 
+    #[inline(always)]
     pub fn byte(&mut self, byte: u8) {
-        let at = self.room(1);
-        self.at = at.map(|at| text::byte(&mut self.buffer, at, byte));
+        if let Some(at) = self.room(1) {
+            self.at = Some(text::byte(&mut self.buffer, at, byte));
+        }
     }
 
+    #[inline(always)]
     pub fn word(&mut self, word: &[u8]) {
         if self.buffer.len() < word.len() {
             self.straight(word);
         } else {
-            let at = self.room(word.len());
-            self.at = at.map(|at| text::word(&mut self.buffer, at, word));
+            if let Some(at) = self.room(word.len()) {
+                self.at = Some(text::word(&mut self.buffer, at, word));
+            }
         }
     }
 
@@ -57,13 +63,16 @@ impl<'a, R: Print + Eprint> Output<'a, R> {
 
     // Any number has 20 digits at most.
     pub fn decimal(&mut self, n: u64) {
-        let at = self.room(20);
-        self.at = at.map(|at| text::number(&mut self.buffer, at, b"", n));
+        if let Some(at) = self.room(20) {
+            self.at = Some(text::number(&mut self.buffer, at, b"", n));
+        }
     }
 
+    #[inline(always)]
     pub fn bit(&mut self, on: bool) {
-        let at = self.room(1);
-        self.at = at.map(|at| text::flag(&mut self.buffer, at, b"", on));
+        if let Some(at) = self.room(1) {
+            self.at = Some(text::flag(&mut self.buffer, at, b"", on));
+        }
     }
 
     // A dash for no bytes.
@@ -75,10 +84,13 @@ impl<'a, R: Print + Eprint> Output<'a, R> {
     }
 
     // Two digits for each byte.
+    #[inline(always)]
     pub fn hex(&mut self, shown: &[u8]) {
         for byte in shown {
-            let at = self.room(2);
-            self.at = at.map(|at| text::hex(&mut self.buffer, at, b"", *byte));
+            let Some(at) = self.room(2) else {
+                return;
+            };
+            self.at = Some(text::hex(&mut self.buffer, at, b"", *byte));
         }
     }
 
@@ -96,11 +108,14 @@ impl<'a, R: Print + Eprint> Output<'a, R> {
 
     // The place of the next byte. The buffer is written out where fewer than so many bytes are left, so that what is put next
     // is not cut.
+    #[inline(always)]
     fn room(&mut self, count: usize) -> Option<usize> {
         let at = self.at?;
-        if self.buffer.len().saturating_sub(at) < count {
-            self.flush();
+        let left = self.buffer.len().checked_sub(at);
+        if left.is_some_and(|left| count <= left) {
+            return Some(at);
         }
+        self.flush();
         self.at
     }
 

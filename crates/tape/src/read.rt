@@ -32,8 +32,7 @@ fn section(bytes: &[u8], out: &mut Output<impl Print + Eprint>) {
     out.word(b"S ");
     show::answer(out, show::outcome(read.err()));
     out.word(b" svc ");
-    // A refusal gives no list: the empty one is printed.
-    show::list(out, read.unwrap_or(ServiceInfo::default()));
+    show::list(out, ServiceInfo::shown(read));
 }
 
 pub fn entry(
@@ -56,6 +55,5 @@ fn entry_of(bytes: [u8; 6], out: &mut Output<impl Print + Eprint>) {
     out.word(b"E ");
     show::answer(out, show::outcome(read.err()));
     out.word(b" entry ");
-    // Nor an entry: the filler is.
-    show::entry(out, read.unwrap_or(ServiceEntry::FILLER));
+    show::entry(out, ServiceEntry::shown(read));
 }

@@ -19,11 +19,7 @@ pub(crate) fn shown(out: &mut [u8], at: usize, parser: CDPParser, handed_out: &[
     ensures { PutInRoom at (lines_text (Lines.shown_lines parser handed_out.now)) out.old result out.new }
 {
     // An accepted packet has one.
-    let framerate = parser.framerate.unwrap_or(Framerate {
-        id: 0,
-        numer: 0,
-        denom: 0,
-    });
+    let framerate = parser.framerate.unwrap_or(Framerate::NONE);
     let time_code = parser.time_code;
     let service_info = parser.service_info;
     let rated = rate(out, at, framerate);

@@ -5,9 +5,10 @@ use Rattle.basis.specs.Bytes.{byte}
 use Rattle.basis.specs.Check.{read_answer}
 use Rattle.values_time.specs.Time as Time
 use Rattle.service_entry.specs.Entry as Entry
+use Rattle.service_entry.specs.Service.{entry_shown, filler}
 use Rattle.service_entries.specs.Code as ServiceEntries
 use Rattle.service_list.specs.Section as Section
-use Rattle.service_list.specs.ServiceList.{list_absent}
+use Rattle.service_list.specs.ServiceList.{empty, list_absent, list_shown}
 use Rattle.read_time_code.specs.Code as ReadTimeCode
 use Rattle.read_closing.specs.Closing.{checksum_of}
 use Rattle.read_packet.specs.Code as ReadPacket
@@ -24,6 +25,10 @@ pub record NothingFromRefused : Type 0 where
   pub entries_read : (d : List ℕ)
       → refuses (read_answer (ServiceEntries.entries_read d) 0) → result_ok (ServiceEntries.entries_read d) ≡ None
   pub section_read : (d : List ℕ) → refuses (read_answer (Section.section_read d) 0) → result_ok (Section.section_read d) ≡ None
+  -- and what is shown in the place of an entry is the filler, in that of a list the empty one
+  pub entry_is_filler : (bytes : List ℕ)
+      → refuses (read_answer (Entry.entry_read bytes) 0) → entry_shown (Entry.entry_read bytes) ≡ filler
+  pub list_is_empty : (d : List ℕ) → refuses (read_answer (Section.section_read d) 0) → list_shown (Section.section_read d) ≡ empty
   -- a packet read with no state shows nothing; and what a new reader shows has no list
   pub stateless_read : (p : List ℕ) → refuses (read_answer (ReaderCode.packet_read p) 0) → result_ok (ReaderCode.packet_read p) ≡ None
   pub no_list : fresh_reader.service_info ≡ list_absent

@@ -12,4 +12,3 @@ pub mod NeverFailed
 pub mod FailedTest
 pub mod Promises
 pub mod Reasons
-mod Numbered

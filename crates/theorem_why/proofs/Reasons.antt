@@ -13,8 +13,6 @@ use Rattle.basis.proofs.Holds.{Holds, also, fixed, none}
 use Rattle.basis.proofs.Verdicts.{refused_not_done}
 use Rattle.basis.specs.Answer.{refused}
 use Rattle.basis.specs.Check.{Rule, Verdict, answer, broken, clear, place_of, verdict}
-use Rattle.basis.specs.declared.refusal.Refusal.{Refusal}
-use Rattle.basis.specs.declared.refusal.Refusal.TheVariants.{BufferTooShort, ChecksumFailed, InvalidFixedBits, InvalidServiceNumber, LengthMismatch, NotWritable, SequenceCountMismatch, ServiceFlagsMismatched, ServiceNumberMismatch, UnknownFramerate, WouldOverflow, WrongCaptionRun, WrongMagic}
 use Rattle.basis.specs.declared.test.ByteTest.{ByteTest}
 use Rattle.basis.specs.declared.test.ByteTest.TheVariants.{Checksum, ServicesFlags}
 use Rattle.basis.specs.declared.test.PairTest.{PairTest}
@@ -32,7 +30,7 @@ use Rattle.explain_tests.specs.Tests.{rule_of, takes}
 use Rattle.explain.specs.Why.{reason_for, reason_of, reason_rule, why_of}
 use Rattle.explain.specs.declared.why.Reason.TheVariants.{Accepted}
 use Rattle.explain_find.proofs.TestsFound.{test_found}
-use Rattle.explain_find.specs.Code.{id_test, test_from}
+use Rattle.explain_find.specs.Code.{test_from}
 use Rattle.text.specs.Digits.{hex_text}
 use Rattle.text_values.proofs.RunsTaken.{runs_apart, runs_taken}
 use Rattle.text_values.specs.Values.{allowed_text, found_text}
@@ -42,7 +40,6 @@ use Rattle.theorem_why.proofs.EveryTabled.{every_tabled}
 use Rattle.theorem_why.proofs.FailedTest.{byte_fails, pair_fails, size_answers, size_fails}
 use Rattle.theorem_why.proofs.FlagsMade.{flags_made}
 use Rattle.theorem_why.proofs.FlagsPut.{flags_put}
-use Rattle.theorem_why.proofs.Numbered.{numbered_five, numbered_nine}
 use Rattle.theorem_why.proofs.NeverFailed.{never_head, never_id, never_size}
 use Rattle.theorem_why.proofs.Promises.{accepted_text, bad_checksum, reason_is, refused_text, too_long}
 use Rattle.theorem_why.proofs.ReasonTrue.{all_kept, rule_broken, rules_kept}
@@ -127,32 +124,13 @@ of_size (Size test) = true
 of_size (Pair test) = false
 of_size (Byte test) = false
 
-no_pair : (zero : Bool) (pair : PairTest) (byte : ByteTest) → of_size (cond zero (Pair pair) (Byte byte)) ≡ false
-no_pair true pair byte = refl
-no_pair false pair byte = refl
-
-size_alone : (p : List ℕ) (place : ℕ) (r : Refusal) → of_size (test_from p r place) ≡ eqb (refused r).number 1
+no_size : (p : List ℕ) (place number : ℕ) (test : ByteTest) (one : Bool) → eqb number 1 ≡ one
+    → test_from p number place ≡ Byte test
+    → cond one (true && eqb place (length p)) (leb number 9 && ltb place (length p)) ≡ true → place < length p
 unfolding test_from
-size_alone p place (LengthMismatch expected actual) = refl
-size_alone p place WrongMagic = no_pair (eqb place 0) Magic (id_test p place)
-size_alone p place UnknownFramerate = refl
-size_alone p place InvalidFixedBits = refl
-size_alone p place ChecksumFailed = refl
-size_alone p place SequenceCountMismatch = refl
-size_alone p place ServiceNumberMismatch = refl
-size_alone p place InvalidServiceNumber = refl
-size_alone p place ServiceFlagsMismatched = refl
-size_alone p place WouldOverflow = refl
-size_alone p place (BufferTooShort needed given) = refl
-size_alone p place NotWritable = refl
-size_alone p place WrongCaptionRun = refl
-
-no_size : (p : List ℕ) (place : ℕ) (r : Refusal) (test : ByteTest) (one : Bool) → eqb (refused r).number 1 ≡ one
-    → test_from p r place ≡ Byte test
-    → cond one (true && eqb place (length p)) (leb (refused r).number 9 && ltb place (length p)) ≡ true → place < length p
-no_size p place r test true e found h = absurd (true≢false (sym e ∙ sym (size_alone p place r) ∙ ap of_size found))
-no_size p place r test false e found h =
-    ltb-true place (length p) (and_right (leb (refused r).number 9) (ltb place (length p)) h)
+no_size p place number test true e found h = absurd (true≢false (ap of_size (rw e at found)))
+no_size p place number test false e found h =
+    ltb-true place (length p) (and_right (leb number 9) (ltb place (length p)) h)
 
 -- two bytes that are tested together are both there
 abbrev PairThere : List ℕ → ℕ → Test → Type 0
@@ -195,22 +173,22 @@ module _ (p : List ℕ) (rule : Rule) (fails : verdict (packet_checks p) ≡ bro
   found_as test e = rw (place_told, named_as test e)
 
   -- the test that the answer leaves is the one that fails
-  found_test : test_from p rule.refusal rule.at.place ≡ rule.at.test
+  found_test : test_from p (refused rule.refusal).number rule.at.place ≡ rule.at.test
   found_test = rw fails at (test_found p).it
 
   five : (refused rule.refusal).number ≡ 5 → rule.at.test ≡ Byte Checksum
   unfolding test_from
-  five e = sym (rw (numbered_five rule.refusal e) at found_test)
+  five e = sym (rw e at found_test)
 
   nine : (refused rule.refusal).number ≡ 9 → rule.at.test ≡ Byte ServicesFlags
   unfolding test_from
-  nine e = sym (rw (numbered_nine rule.refusal e) at found_test)
+  nine e = sym (rw e at found_test)
 
   -- where it looks at bytes, these are the packet's
   byte_inside : (test : ByteTest) → rule.at.test ≡ Byte test → rule.at.place < length p
   byte_inside test e =
       let number : ℕ = (refused rule.refusal).number in
-      no_size p rule.at.place rule.refusal test (eqb number 1) refl (found_test ∙ e) (rw fails at (packet_inside p).it)
+      no_size p rule.at.place number test (eqb number 1) refl (found_test ∙ e) (rw fails at (packet_inside p).it)
 
   own : (test : PairTest) → rule.at.test ≡ Pair test → RuleBroken p (rule_of (Pair test)) rule
   own test e = sym (ap (λ (t : Test). verdict (rule_checks p (rule_of t))) e) ∙ rule_broken p rule fails

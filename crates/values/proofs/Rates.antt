@@ -1,6 +1,6 @@
 -- Rule 3's table: ids 1 to 8 are its rows, and no other id is in it.
 -- Assumes nothing.
-use Rattle.std.proofs.Common.{◌≡◌, ℕ, true, refl, eq-eqb, ne_eqb}
+use Rattle.std.proofs.Common.{◌≡◌, ℕ, true, eqb, refl, eq-eqb, ne_eqb}
 use mathlib.Core.Bool.{Bool, true, false, cond, ◌&&◌}
 use mathlib.Core.List.{List, [], ◌∷◌}
 use mathlib.Core.Path.{sym}
@@ -35,6 +35,11 @@ no_row id h1 h2 h3 h4 h5 h6 h7 h8 =
       ne_eqb id 7 h7,
       ne_eqb id 8 h8,
     )
+
+-- where the id names a rate with the same numerator, the denominator decides
+pub by_denominator : (a found : Framerate) → Some found ≡ from_id a.id → found.numer ≡ a.numer
+    → eqb found.denom a.denom ≡ known a
+by_denominator a found e q = rw (← e, eq-eqb _ _ q)
 
 -- a row that is found has the id, so that a rate that is this row is known, and no other
 abbrev pub same_rate : Framerate → Framerate → Bool

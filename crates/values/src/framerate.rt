@@ -10,6 +10,20 @@ pub struct Framerate {
 }
 
 impl Framerate {
+    // Zeros, where there is no rate.
+    pub const NONE: Self = Self {
+        id: 0,
+        numer: 0,
+        denom: 0,
+    };
+
+    // Nothing calls this: its contract holds the constant above.
+    fn held() -> Self
+        ensures { result ≡ row 0 0 0 }
+    {
+        Self::NONE
+    }
+
     // The rate with this id, or none.
     pub fn from_id(id: u8) -> Option<Self>
         ensures { result ≡ from_id id }

@@ -2,7 +2,7 @@
 -- and where the place of what is refused stands.
 -- Assumes nothing.
 use mathlib.Core.Bool.{false}
-use mathlib.Core.Path.{◌≡◌, ◌∙◌, ap, refl, sym}
+use mathlib.Core.Path.{◌≡◌, ap, refl, sym}
 use Prim.Native.Nat.{ℕ, ◌/◌, ◌%◌, ◌≤◌}
 use borrow.Author.Tests.{eq-eqb, ne_eqb}
 use Rattle.std.specs.Prelude.{Ok, Err}
@@ -17,11 +17,15 @@ use Rattle.values_time.specs.Time.{time_checks, time_of, time_read}
 pub time_within : (h m s f : ℕ) → Within 4 (time_checks h m s f)
 time_within h m s f = fixed refl (fixed refl (fixed refl none))
 
-pub time_near : (h m s f : ℕ) (r : Refused) → time_read h m s f ≡ Err r → r.place ≤ 4
+pub time_near : (h m s f : ℕ) → read_place (time_read h m s f) ≤ 4
 unfolding time_read
-time_near h m s f r e =
+time_near h m s f =
     let v : Verdict = verdict (time_checks h m s f) in
-    rw (sym (ap read_place e) ∙ place_read v (time_of h m s f)) (place_most false 4 v (time_within h m s f).it)
+    rw (place_read v (time_of h m s f)) (place_most false 4 v (time_within h m s f).it)
+
+-- so is that of a refusal that was given
+pub time_near_refused : (h m s f : ℕ) (r : Refused) → time_read h m s f ≡ Err r → r.place ≤ 4
+time_near_refused h m s f r e = rw (sym (ap read_place e)) (time_near h m s f)
 
 module _ (h m s f : ℕ) where
   pub hours_wrong : (h / 64 % 4 ≡ 3 → ⊥) → Err (refused_at InvalidFixedBits 0) ≡ time_read h m s f

@@ -1,7 +1,7 @@
 -- `explain::Why::of`: what the reader's tests give, and the test that these leave.
 -- Assumes nothing.
 use mathlib.Core.Path.{◌∙◌, sym}
-use Rattle.explain.proofs.Explained.{accepted_told, place_inside, refused_told}
+use Rattle.explain.proofs.Explained.{accepted_told, refused_inside, refused_told}
 use Rattle.explain.proofs.why.Why.of.Goals as goal
 
 pub returns-in-Ok : goal.returns-in-Ok
@@ -10,7 +10,7 @@ returns-in-Ok c =
 
 pub reason_for-requires : goal.reason_for-requires
 reason_for-requires c =
-    place_inside _ _ (sym c.parse.ensures ∙ c.in-Err.is)
+    refused_inside _ _ (sym c.parse.ensures ∙ c.in-Err.is)
 
 pub returns-in-Err : goal.returns-in-Err
 returns-in-Err c =

@@ -14,8 +14,8 @@ hand_out-requires c =
       caption_room_in_bounds = omega arith;
     }
 
-pub returns-in-Ok : goal.returns-in-Ok
-returns-in-Ok c =
+pub returns : goal.returns
+returns c =
     let read = sym c.parse.ensures ∙ c.in-Ok.is in
     let clear = tests_clear _ _ read in
     record {
